@@ -1,0 +1,26 @@
+use crate::session::Session;
+
+/// Why a link ended.
+#[derive(Clone, Copy, Debug)]
+pub enum Cause {
+    /// A read of the link answered End.
+    PeerEnd,
+}
+
+/// What is said of a link at its end.
+#[derive(Clone, Copy, Debug)]
+pub struct Ended {
+    /// Its session; None where it got none.
+    pub session: Option<Session>,
+    /// Its descriptor, the session's number modulo the greatest number of connections; 0 without a session.
+    pub fd: u32,
+    /// The peer's IPv4 address as a big-endian number.
+    pub ip: u32,
+    /// The uid that was bound to its session, 0 for none.
+    pub uid: u32,
+    /// How many of its packets were pushed to a worker.
+    pub dispatched: u64,
+    /// How many of them before its reactor saw the uid; all of them where it saw none.
+    pub split: u64,
+    pub cause: Cause,
+}
