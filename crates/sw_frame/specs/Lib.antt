@@ -1,0 +1,4 @@
+pub mod Cut
+pub mod Cutting
+pub mod Fed
+pub mod Calls
