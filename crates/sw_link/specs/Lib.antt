@@ -1,0 +1,3 @@
+pub mod Chunks
+pub mod Net
+pub mod Script

@@ -1,0 +1,13 @@
+use Rattle.std.proofs.Common.{◌≡◌, ℕ, List, [], ◌∷◌, refl, arith}
+use Rattle.sw_record.specs.Bytes.{Own}
+use Rattle.sw_record.specs.Ends.{Whole}
+use Rattle.sw_record_rows.specs.Rows.{two_packets, packet_missing, over, said}
+use Rattle.sw_record_rows.proofs.missing_packet_is_refused.Goals as goal
+
+wrong : (own : Own packet_missing) → Whole two_packets packet_missing own → ⊥
+wrong own h =
+    let e : ◌≡◌ {A = ℕ} 1 2 = h.peer_end 1 (over 1) (said 1) (record { at = 0; there = refl; session = refl }) refl refl in
+    omega arith
+
+pub returns : goal.returns
+returns c = wrong
