@@ -1,0 +1,8 @@
+// The connection's machine: what a connection pushes, reads and writes, from its first event to its last.
+#![tactic(auto)]
+
+mod conn;
+mod mark;
+
+pub use conn::{Asked, Choice, Conn, READ_SIZE};
+pub use mark::Mark;
