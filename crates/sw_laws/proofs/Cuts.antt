@@ -1,0 +1,38 @@
+-- What the laws need of cutting.
+use Rattle.std.proofs.Common.{◌≡◌, ℕ, List, [], ◌∷◌, ◌++◌, refl, sym, Option, Some, None, slice_get}
+use Rattle.sw_cut.specs.declared.First.{First}
+use Rattle.sw_cut.specs.declared.First.TheVariants as first
+use Rattle.sw_frame.specs.Cut.{IsFit}
+use Rattle.sw_frame.specs.Cutting.{Cutting, cut_of, next_of, next_by, next_rest}
+use Rattle.sw_frame.specs.declared.next.Next.TheVariants.{Packet, More}
+use Rattle.sw_frame.proofs.CutLaws.{cut-more}
+use Rattle.sw_record.specs.Terms.{IsPrefix}
+use Rattle.sw_conn.specs.Framed.{framing_of}
+use Rattle.sw_laws.specs.Story.{packets_of}
+
+-- a further piece leaves the packets that were cut
+pub packets_grow : (mark : List ℕ) → IsFit (framing_of mark) → (pieces : List (List ℕ)) (p : List ℕ) → IsPrefix (packets_of mark pieces) (packets_of mark (pieces ++ p ∷ []))
+packets_grow mark fit pieces p = let e = cut-more (framing_of mark) fit pieces (p ∷ []) in (e.packets.0, sym e.packets.1)
+
+rest_is : (fault : Option First) (p : List ℕ) → next_rest fault ≡ Packet p → ⊥
+rest_is None p e = cc
+rest_is (Some (first.Packet n)) p e = cc
+rest_is (Some first.More) p e = cc
+rest_is (Some (first.TooLong n)) p e = cc
+rest_is (Some (first.BadLength n)) p e = cc
+
+next_by_packet : (fault : Option First) (o : Option (List ℕ)) (p : List ℕ) → next_by fault o ≡ Packet p → o ≡ Some p
+next_by_packet fault (Some q) p e = cc
+next_by_packet fault None p e = absurd (rest_is fault p e)
+
+next_by_more : (fault : Option First) (o : Option (List ℕ)) → next_by fault o ≡ More → o ≡ None
+next_by_more fault (Some q) e = absurd cc
+next_by_more fault None e = refl
+
+-- the packet that comes next is the first that wasn't given
+pub next_is_packet : (c : Cutting) (p : List ℕ) → next_of c ≡ Packet p → slice_get (cut_of c).packets c.given ≡ Some p
+next_is_packet c p e = next_by_packet (cut_of c).fault (slice_get (cut_of c).packets c.given) p e
+
+-- without one all were given
+pub next_is_more : (c : Cutting) → next_of c ≡ More → slice_get (cut_of c).packets c.given ≡ None
+next_is_more c e = next_by_more (cut_of c).fault (slice_get (cut_of c).packets c.given) e
