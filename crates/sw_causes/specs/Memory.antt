@@ -1,0 +1,29 @@
+use Rattle.std.specs.Prelude.{ℕ, List, drop, Bool}
+use Rattle.std.specs.List.{Contains}
+use Rattle.sw_causes.specs.declared.memory_source.MemorySource.{MemorySource}
+use Rattle.sw_causes.specs.declared.memory_sink.MemorySink.{MemorySink}
+
+-- the bytes that a source in memory has left, the count of its faults, and whether it ended
+abbrev pub bytes_left : MemorySource → List ℕ
+bytes_left s = drop s.at s.bytes.items
+
+abbrev pub source_faults : MemorySource → ℕ
+source_faults s = s.faults
+
+abbrev pub source_ended : MemorySource → Bool
+source_ended s = s.ended
+
+-- the number of the next read stands in the list of those that fail
+abbrev pub FailsNextRead : MemorySource → Type 0
+FailsNextRead s = Contains s.failing.items s.calls
+
+-- the bytes that a sink in memory took, and the count of its faults
+abbrev pub bytes_taken : MemorySink → List ℕ
+bytes_taken s = s.bytes.items
+
+abbrev pub sink_faults : MemorySink → ℕ
+sink_faults s = s.faults
+
+-- the number of the next write stands in the list of those that fail
+abbrev pub FailsNextWrite : MemorySink → Type 0
+FailsNextWrite s = Contains s.failing.items s.calls

@@ -1,0 +1,5 @@
+pub mod Fields
+pub mod Draft
+pub mod Grammar
+pub mod Steps
+pub mod Print

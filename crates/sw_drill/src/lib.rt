@@ -1,0 +1,16 @@
+// The text of a drill: the schedule that is read, and the record that is printed. Stands between the top call and the core,
+// and knows neither.
+#![tactic(auto)]
+
+mod draft;
+mod fields;
+mod printing;
+mod reading;
+mod schedule;
+
+pub use printing::print;
+pub use reading::{read, reading_is_exact};
+pub use schedule::{Drill, Line, Lines};
+
+#[cfg(test)]
+mod tests;

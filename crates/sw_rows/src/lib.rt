@@ -1,0 +1,9 @@
+// Schedules that are played whole, against records that were written out by hand from what the server promises.
+#![tactic(auto)]
+
+#[cfg(test)]
+mod end_of_link;
+#[cfg(test)]
+mod one_step_at_a_time;
+#[cfg(test)]
+mod playing;

@@ -1,0 +1,5 @@
+pub mod Words
+pub mod Statuses
+pub mod Run
+pub mod Says
+pub mod Rightly

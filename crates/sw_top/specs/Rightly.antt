@@ -1,0 +1,34 @@
+-- What a user relies on, of the record that is printed.
+use Rattle.std.specs.Prelude.{◌≡◌, ℕ, List, slice_get, Some}
+use Rattle.sw_data.specs.declared.ended.Ended.{Ended}
+use Rattle.sw_record.specs.declared.step.Step.{Step}
+use Rattle.sw_record.specs.declared.record.LinkRecord.{LinkRecord}
+use Rattle.sw_record.specs.declared.record.LinkState.TheVariants.{Over}
+use Rattle.sw_record.specs.Ends.{Drained}
+use Rattle.sw_record.specs.Right.{Right}
+use Rattle.sw_drill.specs.Print.{record_text}
+use Rattle.sw_laws.specs.Joint.{core_terms}
+use Rattle.sw_world.specs.Steps.{start, run}
+use Rattle.sw_world.specs.Account.{at_end_of}
+use Rattle.sw_world.specs.Played.{Played}
+use Rattle.sw_top.specs.declared.status.Status.{Status}
+use Rattle.sw_top.specs.declared.status.Status.TheVariants as statuses
+use Rattle.sw_top.specs.Says.{FromSource, FromSink, Meant, IsWritten}
+
+-- the text is that of a record that was played; the record is right, and drained once its link is over
+pub record IsRightText (text : List ℕ) : Type 0 where
+  pub mark : List ℕ
+  pub steps : List Step
+  pub printed : text ≡ record_text (Played mark steps)
+  pub right : Right (core_terms mark) (Played mark steps) (at_end_of (run steps (start mark)))
+  pub drained : (at : ℕ) (l : LinkRecord) (e : Ended) → slice_get (Played mark steps).links at ≡ Some l → l.state ≡ Over e → Drained (core_terms mark) (Played mark steps)
+
+-- at Ok the text that was meant and written is such a text
+abbrev pub PrintsRight : List (List ℕ) → FromSource → FromSink → Status → Type 0
+PrintsRight words s k statuses.Ok = (text : List ℕ) × Meant words s statuses.Ok text × IsRightText text × IsWritten k text
+PrintsRight words s k (statuses.BadLine n) = Unit {0}
+PrintsRight words s k statuses.InputLong = Unit {0}
+PrintsRight words s k statuses.Usage = Unit {0}
+PrintsRight words s k statuses.ReadFault = Unit {0}
+PrintsRight words s k statuses.WriteFault = Unit {0}
+PrintsRight words s k statuses.OutOfMemory = Unit {0}

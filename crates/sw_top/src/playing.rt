@@ -1,0 +1,93 @@
+// A schedule is played: each line's steps are taken by the core, and the record of what happened is printed.
+
+ghost use Rattle.std.specs.Prelude.{◌≡◌, ℕ, ◌<◌, ◌≤◌, length, replicate, OnOk, IfOk, string_bytes};
+ghost use Rattle.sw_record.specs.declared.step.Step.TheVariants.{Turn};
+ghost use Rattle.sw_drill.specs.Fields.{IsMark};
+ghost use Rattle.sw_drill.specs.Steps.{round, rounds, steps_of_line, steps_of};
+ghost use Rattle.sw_top.specs.Run.{stepped, played, fresh, account_text, drill_text};
+
+use std::alloc::Global;
+use sw_data::{Octets, OutOfMemory};
+use sw_drill::{Drill, Line, Lines, print};
+use sw_record::{ActorId, Step};
+use sw_world::World;
+
+#[tactic(auto, unfolding(crate::specs::Run::fresh))]
+fn make(alloc: Global, mark: Octets) -> Result<World, OutOfMemory>
+    requires { IsMark mark }
+    ensures { IfOk result (λ w. w ≡ fresh mark) }
+{
+    World::make(alloc, mark)
+}
+
+#[tactic(auto, unfolding(crate::specs::Run::stepped))]
+fn step(world: &mut World, step: Step) -> Result<(), OutOfMemory>
+    ensures { OnOk result (world.new ≡ stepped step world.old) }
+{
+    world.step(step)
+}
+
+fn turns(world: &mut World, actor: ActorId, n: u64) -> Result<(), OutOfMemory>
+    ensures { OnOk result (world.new ≡ played (replicate n (Turn actor)) world.old) }
+{
+    for _ in 0..n {
+        step(world, Step::Turn(actor))?;
+    }
+    Ok(())
+}
+
+#[tactic(auto, unfolding(crate::specs::Run::played))]
+fn round(world: &mut World) -> Result<(), OutOfMemory>
+    ensures { OnOk result (world.new ≡ played round world.old) }
+{
+    step(world, Step::Turn(ActorId::Door))?;
+    step(world, Step::Turn(ActorId::Reactor(0)))?;
+    step(world, Step::Turn(ActorId::Worker(0)))
+}
+
+fn rounds(world: &mut World, n: u64) -> Result<(), OutOfMemory>
+    ensures { OnOk result (world.new ≡ played (rounds n) world.old) }
+{
+    for _ in 0..n {
+        round(world)?;
+    }
+    Ok(())
+}
+
+#[tactic(auto, unfolding(crate::specs::Run::played))]
+fn play_line(world: &mut World, line: Line) -> Result<(), OutOfMemory>
+    ensures { OnOk result (world.new ≡ played (steps_of_line line) world.old) }
+{
+    match line {
+        Line::Step(one) => step(world, one),
+        Line::Turns(actor, n) => turns(world, actor, n),
+        Line::Rounds(n) => rounds(world, n),
+    }
+}
+
+fn play(world: &mut World, lines: Lines) -> Result<(), OutOfMemory>
+    ensures { OnOk result (world.new ≡ played (steps_of lines) world.old) }
+{
+    for line in lines.into_vec() {
+        play_line(world, line)?;
+    }
+    Ok(())
+}
+
+#[tactic(auto, unfolding(crate::specs::Run::account_text))]
+fn account(alloc: Global, world: &World) -> Result<String, OutOfMemory>
+    ensures { IfOk result (λ text. string_bytes text ≡ account_text world.now) }
+{
+    let so_far = world.account()?;
+    print(alloc, &so_far)
+}
+
+/// The text of the record that a drill leads to. Only want of memory makes it answer an error.
+pub fn drill(alloc: Global, drill: Drill) -> Result<String, OutOfMemory>
+    requires { IsMark drill.mark }
+    ensures { IfOk result (λ text. string_bytes text ≡ drill_text drill) }
+{
+    let mut world = make(alloc, drill.mark)?;
+    play(&mut world, drill.lines)?;
+    account(alloc, &world)
+}

@@ -1,0 +1,38 @@
+ghost use Rattle.std.specs.Prelude.{◌≡◌};
+ghost use Rattle.sw_top.specs.Statuses.{status_number};
+
+/// How a command ended.
+#[derive(Clone, Copy, Debug, PartialEq, Eq)]
+pub enum Status {
+    /// The command's output was written.
+    Ok,
+    /// The line of this number, from 1, is the input's first that isn't in the grammar or is missing.
+    BadLine(u64),
+    /// More than 67,108,864 bytes came.
+    InputLong,
+    /// The words name no command.
+    Usage,
+    /// A read of the source failed.
+    ReadFault,
+    /// A write of the sink failed, and a beginning of what was to be written was.
+    WriteFault,
+    /// Memory ran out.
+    OutOfMemory,
+}
+
+impl Status {
+    /// The number that the program ends with.
+    pub fn number(&self) -> u8
+        ensures { result ≡ status_number self.now }
+    {
+        match self {
+            Status::Ok => 0,
+            Status::BadLine(_) => 1,
+            Status::InputLong => 1,
+            Status::Usage => 2,
+            Status::ReadFault => 3,
+            Status::WriteFault => 4,
+            Status::OutOfMemory => 5,
+        }
+    }
+}
