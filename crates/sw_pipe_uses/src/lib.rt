@@ -1,0 +1,16 @@
+//! Callers of a pipe: as many threads as there are senders, messages of any type, and notes both ways.
+#![tactic(auto)]
+
+mod many;
+mod message;
+mod notes;
+mod pair;
+mod rounds;
+#[cfg(test)]
+mod tests;
+
+pub use many::{Item, OfPipe, Pushing, collect, start_all};
+pub use message::{Even, Message, Node, take_number};
+pub use notes::{answer, take_counted};
+pub use pair::{close_in_two, push_both};
+pub use rounds::run;
