@@ -1,0 +1,158 @@
+//! Measures the loads and prints nanoseconds.
+ghost use Rattle.std.specs.Prelude.{◌<◌, ◌≤◌, IfOk, length};
+ghost use Rattle.sw_rowlock.specs.Seats.{all_parts};
+ghost use Rattle.sw_rowlock_uses.specs.Ready.{IsReady};
+
+use crate::loads::{FourParts, Load, Numbers, Token, TwoParts, four, one, two};
+use crate::swaps::{four_own, four_same, raise_own, two_own, two_same};
+use std::io;
+use std::rt::Clock;
+use std::sync::Wait;
+use std::sync::atomic::AtomicU64;
+use std::thread::Threads;
+use std::time::Instant;
+use sw_rowlock::OnePart;
+
+// The time since `start` for each of so many steps of one thread, in tenths of a nanosecond.
+fn each<R: Clock>(rt: &R, start: &Instant, times: u64) -> io::Result<u64> {
+    let took = u64::try_from(start.elapsed(rt)?.as_nanos()).unwrap_or(u64::MAX);
+    Ok(took.saturating_mul(10) / times.max(1))
+}
+
+fn print<R: Print>(rt: &R, what: &str, who: &str, tenths: u64) -> io::Result<()> {
+    println!(rt; "{what}, {who}: {}.{} ns", tenths / 10, tenths % 10)
+}
+
+/// Measures a load alone, and by two and four threads whose rows are `step` apart.
+pub fn load<R: Clock + Print + Threads + Wait + Sync>(
+    rt: &R,
+    locks: &Numbers,
+    seat: Token,
+    what: &str,
+    load: Load,
+    step: u32,
+    times: u64,
+) -> io::Result<Token>
+    requires seat { IsReady locks.now all_parts seat }
+    requires near { 8 ≤ length locks.now.start.rows }
+    requires step { step ≤ 1 }
+    ensures { IfOk result (IsReady locks.now all_parts) }
+{
+    let mut seat = seat;
+    let part = locks.split::<OnePart>(&mut seat);
+    let start = Instant::now(rt)?;
+    let part = one(rt, locks, part, 0, load, times);
+    print(rt, what, "alone", each(rt, &start, times)?)?;
+    locks.join(&mut seat, part);
+    let part = locks.split::<TwoParts>(&mut seat);
+    let start = Instant::now(rt)?;
+    let part = two(rt, locks, part, 0, step, load, times);
+    print(rt, what, "two threads", each(rt, &start, times)?)?;
+    locks.join(&mut seat, part);
+    let part = locks.split::<FourParts>(&mut seat);
+    let start = Instant::now(rt)?;
+    let part = four(rt, locks, part, 0, step, load, times);
+    print(rt, what, "four threads", each(rt, &start, times)?)?;
+    locks.join(&mut seat, part);
+    Ok(seat)
+}
+
+/// Measures the bare compare-and-exchange.
+pub fn swaps<R: Clock + Print + Threads + Wait + Sync>(rt: &R, times: u64) -> io::Result<()> {
+    let what = "compare and exchange";
+    let start = Instant::now(rt)?;
+    raise_own(rt, times);
+    print(rt, what, "alone", each(rt, &start, times)?)?;
+    let start = Instant::now(rt)?;
+    two_own(rt, times);
+    print(
+        rt,
+        what,
+        "two threads on words of their own",
+        each(rt, &start, times)?,
+    )?;
+    let start = Instant::now(rt)?;
+    four_own(rt, times);
+    print(
+        rt,
+        what,
+        "four threads on words of their own",
+        each(rt, &start, times)?,
+    )?;
+    let word = AtomicU64::new(0);
+    let start = Instant::now(rt)?;
+    two_same(rt, &word, times);
+    print(
+        rt,
+        what,
+        "two threads on one word",
+        each(rt, &start, times)?,
+    )?;
+    let start = Instant::now(rt)?;
+    four_same(rt, &word, times);
+    print(
+        rt,
+        what,
+        "four threads on one word",
+        each(rt, &start, times)?,
+    )
+}
+
+/// Measures everything.
+pub fn all<R: Clock + Print + Threads + Wait + Sync>(
+    rt: &R,
+    locks: &Numbers,
+    seat: Token,
+    times: u64,
+) -> io::Result<()>
+    requires seat { IsReady locks.now all_parts seat }
+    requires near { 8 ≤ length locks.now.start.rows }
+{
+    swaps(rt, times)?;
+    let seat = load(
+        rt,
+        locks,
+        seat,
+        "take and give, rows of their own",
+        Load::Locks,
+        1,
+        times,
+    )?;
+    let seat = load(
+        rt,
+        locks,
+        seat,
+        "take and give, one row",
+        Load::Locks,
+        0,
+        times,
+    )?;
+    let seat = load(
+        rt,
+        locks,
+        seat,
+        "draw, rows of their own",
+        Load::Draws,
+        1,
+        times,
+    )?;
+    let seat = load(
+        rt,
+        locks,
+        seat,
+        "take, draw and give, rows of their own",
+        Load::Calls,
+        1,
+        times,
+    )?;
+    load(
+        rt,
+        locks,
+        seat,
+        "take, draw and give, one row",
+        Load::Calls,
+        0,
+        times,
+    )?;
+    Ok(())
+}

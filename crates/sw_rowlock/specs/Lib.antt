@@ -1,0 +1,6 @@
+pub mod History
+pub mod Rule
+pub mod Calls
+pub mod Seats
+pub mod Told
+pub mod Faults

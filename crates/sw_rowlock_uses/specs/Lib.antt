@@ -1,0 +1,5 @@
+pub mod Writes
+pub mod Moves
+pub mod Ready
+pub mod Writing
+pub mod Moving
