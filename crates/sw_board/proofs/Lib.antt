@@ -1,0 +1,10 @@
+pub mod Moves
+pub mod Logs
+pub mod Noted
+pub mod Rows
+pub mod Steps
+pub mod Seats
+pub mod Ends
+pub mod Known
+pub mod Goes
+pub mod Closing
