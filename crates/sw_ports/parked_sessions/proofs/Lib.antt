@@ -1,4 +1,0 @@
-pub mod Members
-pub mod Tries
-pub mod PlainClaims
-pub mod Answered

@@ -1,4 +1,0 @@
-pub mod Calls
-pub mod Rule
-pub mod Values
-pub mod Places
