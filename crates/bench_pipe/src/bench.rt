@@ -1,8 +1,8 @@
-//! Measures both and prints the better of a few rounds.
+//! Measures both in turn and prints the median of the rounds.
 ghost use Rattle.std.specs.Prelude.{◌≤◌};
 
 use crate::{piped, queued};
-use std::alloc::Global;
+use std::alloc::{AllocError, Global};
 use std::io;
 use std::rt::Clock;
 use std::sync::Wait;
@@ -19,7 +19,13 @@ fn rate(messages: u64, took: Duration) -> u64 {
     messages.saturating_mul(1000) / micros
 }
 
-/// Runs the load for so many senders, in turn over the pipe and over the queue, and prints the best rate of each.
+// The middle one of these rates; 0 of none.
+fn median(mut rates: Vec<u64>) -> Result<u64, AllocError> {
+    rates.sort()?;
+    Ok(rates.get(rates.len() / 2).copied().unwrap_or(0))
+}
+
+/// Runs the load for so many senders, in turn over the pipe and over the queue, and prints the median rate of each.
 pub fn compare<R: Alloc<A = Global> + Clock + Print + Threads + Wait + Copy + Send + 'static>(
     rt: R,
     senders: u32,
@@ -28,16 +34,17 @@ pub fn compare<R: Alloc<A = Global> + Clock + Print + Threads + Wait + Copy + Se
 {
     let count = MESSAGES / u64::from(senders);
     let messages = count.saturating_mul(u64::from(senders));
-    let mut piped = 0u64;
-    let mut queued = 0u64;
+    let mut piped = Vec::new(rt.alloc());
+    let mut queued = Vec::new(rt.alloc());
     for _ in 0..ROUNDS {
         let start = Instant::now(&rt)?;
         piped::run(rt, rt.alloc(), senders, count)?;
-        piped = piped.max(rate(messages, start.elapsed(&rt)?));
+        piped.push(rate(messages, start.elapsed(&rt)?))?;
         let start = Instant::now(&rt)?;
         queued::run(rt, rt.alloc(), senders, count)?;
-        queued = queued.max(rate(messages, start.elapsed(&rt)?));
+        queued.push(rate(messages, start.elapsed(&rt)?))?;
     }
+    let (piped, queued) = (median(piped)?, median(queued)?);
     let percent = piped.saturating_mul(100) / queued.max(1);
     println!(rt;
         "{senders} senders: pipe {piped}, queue {queued} thousand messages a second, {percent} %"
