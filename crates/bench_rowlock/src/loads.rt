@@ -158,7 +158,7 @@ pub fn two<R: Threads + Wait + Sync>(
 ) -> Token
     requires seat { IsReady locks.now 2 seat }
     requires near { row + step < length locks.now.start.rows }
-    requires few { (row < 8) × (step ≤ 1) }
+    requires few { (row < 64) × (step ≤ 16) }
     ensures { IsReady locks.now 2 result }
 {
     let mut seat = seat;
@@ -170,7 +170,7 @@ pub fn two<R: Threads + Wait + Sync>(
             ensures { IsReady locks.entry.now 1 result }
         { one(rt, locks, seat, row, load, times) },
         move || -> Token
-            requires { IsSync R.row × IsReady locks.now 1 other × (row + step < length locks.now.start.rows) × (row < 8) × (step ≤ 1) }
+            requires { IsSync R.row × IsReady locks.now 1 other × (row + step < length locks.now.start.rows) × (row < 64) × (step ≤ 16) }
             ensures { IsReady locks.entry.now 1 result }
         { one(rt, locks, other, row + step, load, times) },
     );
@@ -190,7 +190,7 @@ pub fn four<R: Threads + Wait + Sync>(
 ) -> Token
     requires seat { IsReady locks.now 4 seat }
     requires near { row + 3 * step < length locks.now.start.rows }
-    requires few { (row < 4) × (step ≤ 1) }
+    requires few { (row < 4) × (step ≤ 16) }
     ensures { IsReady locks.now 4 result }
 {
     let mut seat = seat;
@@ -198,11 +198,11 @@ pub fn four<R: Threads + Wait + Sync>(
     let (mut seat, other) = join(
         rt,
         move || -> Token
-            requires { IsSync R.row × IsReady locks.now 2 seat × (row + 3 * step < length locks.now.start.rows) × (row < 4) × (step ≤ 1) }
+            requires { IsSync R.row × IsReady locks.now 2 seat × (row + 3 * step < length locks.now.start.rows) × (row < 4) × (step ≤ 16) }
             ensures { IsReady locks.entry.now 2 result }
         { two(rt, locks, seat, row, step, load, times) },
         move || -> Token
-            requires { IsSync R.row × IsReady locks.now 2 other × (row + 3 * step < length locks.now.start.rows) × (row < 4) × (step ≤ 1) }
+            requires { IsSync R.row × IsReady locks.now 2 other × (row + 3 * step < length locks.now.start.rows) × (row < 4) × (step ≤ 16) }
             ensures { IsReady locks.entry.now 2 result }
         { two(rt, locks, other, row + 2 * step, step, load, times) },
     );

@@ -17,8 +17,8 @@ use std::thread::Threads;
 use std::{env, io};
 use sw_rowlock_uses::add_one;
 
-// Enough rows for four threads, each on its own.
-const ROWS: usize = 8;
+// Enough rows for four threads, each on its own, far from each other.
+const ROWS: usize = 64;
 
 const SMALL: u64 = 200;
 
@@ -27,7 +27,7 @@ const MANY: u64 = 300_000;
 // Four threads add 1 to rows of their own and then all to row 0.
 fn small<R: Print + Threads + Wait + Sync>(rt: &R, locks: &Numbers, seat: Token) -> io::Result<()>
     requires seat { IsReady locks.now all_parts seat }
-    requires near { 8 ≤ length locks.now.start.rows }
+    requires near { 64 ≤ length locks.now.start.rows }
 {
     let mut seat = seat;
     let part = locks.split::<FourParts>(&mut seat);

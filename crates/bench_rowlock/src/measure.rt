@@ -13,6 +13,9 @@ use std::thread::Threads;
 use std::time::Instant;
 use sw_rowlock::OnePart;
 
+// How far apart rows are whose words and slots share no cache line.
+const APART: u32 = 16;
+
 // The time since `start` for each of so many steps of one thread, in tenths of a nanosecond.
 fn each<R: Clock>(rt: &R, start: &Instant, times: u64) -> io::Result<u64> {
     let took = u64::try_from(start.elapsed(rt)?.as_nanos()).unwrap_or(u64::MAX);
@@ -34,8 +37,8 @@ pub fn load<R: Clock + Print + Threads + Wait + Sync>(
     times: u64,
 ) -> io::Result<Token>
     requires seat { IsReady locks.now all_parts seat }
-    requires near { 8 ≤ length locks.now.start.rows }
-    requires step { step ≤ 1 }
+    requires near { 64 ≤ length locks.now.start.rows }
+    requires step { step ≤ 16 }
     ensures { IfOk result (IsReady locks.now all_parts) }
 {
     let mut seat = seat;
@@ -106,7 +109,7 @@ pub fn all<R: Clock + Print + Threads + Wait + Sync>(
     times: u64,
 ) -> io::Result<()>
     requires seat { IsReady locks.now all_parts seat }
-    requires near { 8 ≤ length locks.now.start.rows }
+    requires near { 64 ≤ length locks.now.start.rows }
 {
     swaps(rt, times)?;
     let seat = load(
@@ -114,6 +117,15 @@ pub fn all<R: Clock + Print + Threads + Wait + Sync>(
         locks,
         seat,
         "take and give, rows of their own",
+        Load::Locks,
+        APART,
+        times,
+    )?;
+    let seat = load(
+        rt,
+        locks,
+        seat,
+        "take and give, neighbouring rows",
         Load::Locks,
         1,
         times,
@@ -133,7 +145,7 @@ pub fn all<R: Clock + Print + Threads + Wait + Sync>(
         seat,
         "draw, rows of their own",
         Load::Draws,
-        1,
+        APART,
         times,
     )?;
     let seat = load(
@@ -142,7 +154,7 @@ pub fn all<R: Clock + Print + Threads + Wait + Sync>(
         seat,
         "take, draw and give, rows of their own",
         Load::Calls,
-        1,
+        APART,
         times,
     )?;
     load(
