@@ -1,6 +1,6 @@
 // A sink that keeps what it took, and whose writes fail where a list says so.
 
-ghost use Rattle.std.specs.Prelude.{◌≡◌, ℕ, ◌≤◌, [], length, min, Some};
+ghost use Rattle.std.specs.Prelude.{◌≡◌, ℕ, ◌≤◌, ◌+◌, [], length, min, Some};
 
 use crate::traits::{Sink, WriteTook};
 use std::alloc::Global;
@@ -19,12 +19,14 @@ pub struct MemorySink {
 }
 
 impl MemorySink {
-    ghost use Rattle.sw_causes.specs.Memory.{bytes_taken, sink_faults};
+    ghost use Rattle.sw_causes.specs.Memory.{bytes_taken, sink_faults, failing_writes, writes_made};
 
     /// A sink that took nothing yet.
     pub fn new(alloc: Global, failing: Vec<u64>) -> MemorySink
         ensures bytes { bytes_taken result ≡ [] }
         ensures faults { sink_faults result ≡ 0 }
+        ensures failing { failing_writes result ≡ failing.items }
+        ensures made { writes_made result ≡ 0 }
     {
         MemorySink {
             bytes: Vec::new(alloc),
@@ -43,8 +45,8 @@ impl MemorySink {
 }
 
 impl Sink for MemorySink {
-    ghost use Rattle.sw_causes.specs.Causes.{TellsWrite, Rises};
-    ghost use Rattle.sw_causes.specs.Memory.{bytes_taken, sink_faults, FailsNextWrite};
+    ghost use Rattle.sw_causes.specs.Causes.{TellsWrite, Rises, most};
+    ghost use Rattle.sw_causes.specs.Memory.{bytes_taken, sink_faults, failing_writes, writes_made, FailsNextWrite};
 
     ghost taken = { λ s. Some (bytes_taken s) };
 
@@ -56,6 +58,8 @@ impl Sink for MemorySink {
         ensures never_falls { sink_faults self.old ≤ sink_faults self.new }
         ensures failed { result ≡ WriteTook.Failed → Rises (sink_faults self.old) (sink_faults self.new) }
         ensures fails { FailsNextWrite self.old → result ≡ WriteTook.Failed }
+        ensures made { writes_made self.new ≡ min (writes_made self.old + 1) most }
+        ensures failing { failing_writes self.new ≡ failing_writes self.old }
         ensures took { (n : ℕ) → result ≡ WriteTook.Took n → n ≡ min (length piece.now) 65536 }
     {
         let call = self.calls;

@@ -1,6 +1,6 @@
 // Bytes in memory as a source whose reads fail where a list says so.
 
-ghost use Rattle.std.specs.Prelude.{◌≡◌, ◌↔◌, ℕ, ◌≤◌, ◌<◌, length, take, drop, Some, false};
+ghost use Rattle.std.specs.Prelude.{◌≡◌, ◌↔◌, ℕ, ◌≤◌, ◌<◌, length, min, ◌+◌, take, drop, Some, false};
 
 use crate::traits::{ReadGot, Source};
 use crate::whole::bytes_from;
@@ -31,13 +31,15 @@ pub struct MemorySource {
 }
 
 impl MemorySource {
-    ghost use Rattle.sw_causes.specs.Memory.{bytes_left, source_faults, source_ended};
+    ghost use Rattle.sw_causes.specs.Memory.{bytes_left, source_faults, source_ended, failing_reads, reads_made};
 
     /// A source that gives these bytes and then its end.
     pub fn new(bytes: Vec<u8>, failing: Vec<u64>) -> MemorySource
         ensures left { bytes_left result ≡ bytes.items }
         ensures faults { source_faults result ≡ 0 }
         ensures ended { source_ended result ≡ false }
+        ensures failing { failing_reads result ≡ failing.items }
+        ensures made { reads_made result ≡ 0 }
     {
         MemorySource {
             bytes,
@@ -51,8 +53,8 @@ impl MemorySource {
 }
 
 impl Source for MemorySource {
-    ghost use Rattle.sw_causes.specs.Causes.{TellsRead, EndsRead, Rises};
-    ghost use Rattle.sw_causes.specs.Memory.{bytes_left, source_faults, source_ended, FailsNextRead};
+    ghost use Rattle.sw_causes.specs.Causes.{TellsRead, EndsRead, Rises, most};
+    ghost use Rattle.sw_causes.specs.Memory.{bytes_left, source_faults, source_ended, failing_reads, reads_made, FailsNextRead};
 
     ghost left = { λ s. Some (bytes_left s) };
 
@@ -69,6 +71,8 @@ impl Source for MemorySource {
         ensures never_falls { source_faults self.old ≤ source_faults self.new }
         ensures failed { result ≡ ReadGot.Failed → Rises (source_faults self.old) (source_faults self.new) }
         ensures fails { (result ≡ ReadGot.Failed) ↔ FailsNextRead self.old }
+        ensures made { reads_made self.new ≡ min (reads_made self.old + 1) most }
+        ensures failing { failing_reads self.new ≡ failing_reads self.old }
     {
         let call = self.calls;
         self.calls = call.saturating_add(1);
