@@ -80,10 +80,10 @@ module _ {S : Type 0} where
         refl,
       )
 
-  pub claims : (max slots id : ℕ) (me : Me S View) (i j new : ℕ) → j ≡ 8 * i → i < max → new ≡ new / 4294967296 * 4294967296 → me.0.clerk ≡ true → me.0.pass ≡ false → me.0.calls ≡ [] → me.0.drawn < new / 4294967296
+  tried_number : (max slots id : ℕ) (me : Me S View) (i j new : ℕ) → j ≡ 8 * i → i < max → new ≡ new / 4294967296 * 4294967296 → me.0.clerk ≡ true → me.0.pass ≡ false → me.0.calls ≡ [] → me.0.drawn < new / 4294967296
       → (new / 4294967296) % max ≡ i
-      → Allows (Kept max) slots id me j (λ n. either (eqb n 0) new n) (λ r n. (n ≡ (after_claim me.0 (new / 4294967296) r, me.1)) × MetIn me.0.claimed me.0.max i r)
-  claims max slots id me i j new is lt whole is_clerk no_pass no_calls above slot s h _ at _ =
+      → Allows (Kept max) slots id me j (λ n. either (eqb n 0) new n) (λ r n. (n ≡ (after_claim me.0 (new / 4294967296) r, me.1)) × ((new / 4294967296) % me.0.max ≡ i) × MetIn me.0.claimed me.0.max i r)
+  tried_number max slots id me i j new is lt whole is_clerk no_pass no_calls above slot s h _ at _ =
       let v = me.0 in let r : ℕ = slice_index s.words j in let num : ℕ = new / 4294967296 in
       let D = (h.fits id v at).desks is_clerk in
       let W : r ≡ h.at i * 4294967296 + h.uid (h.at i) = at_word max s h i j is lt in
@@ -92,8 +92,9 @@ module _ {S : Type 0} where
       let met : MetIn v.claimed v.max i r = λ some_word.
       (let k : Met v.claimed v.max i (r / 4294967296) = subst (λ k. Met v.claimed v.max i k) (sym n) (subst (λ k. Met v.claimed k i (h.at i)) (sym D.max_is) (subst (λ l. Met l max i (h.at i)) (sym D.claimed_is) (h.live i lt))) in
       k (λ z. let free : h.at i ≡ 0 = sym n ∙ z in let none_bound : h.uid (h.at i) ≡ 0 = ap h.uid free ∙ h.zero_uid in some_word (omega (arith, W, free, none_bound)))) in
+      let own : num % v.max ≡ i = ap (λ k. num % k) D.max_is ∙ slot in
       let below : (p : ℕ) → In p h.claimed → p ≤ h.drawn = λ p t. (h.drew p t).1 in
-      exchanged r 0 new (λ x. (w : View) × (a : Act S) × Valid s.homes me.1 a × Kept max (stepped s j x id me.1 w a) × ((◌≡◌ {A = Me S View} (w, carried_after me.1 a) (after_claim v num r, me.1)) × MetIn v.claimed v.max i r))
+      exchanged r 0 new (λ x. (w : View) × (a : Act S) × Valid s.homes me.1 a × Kept max (stepped s j x id me.1 w a) × ((◌≡◌ {A = Me S View} (w, carried_after me.1 a) (after_claim v num r, me.1)) × (num % v.max ≡ i) × MetIn v.claimed v.max i r))
       (λ e.
       let w : View = claimer v.max num (v.claimed ++ num ∷ []) v.out num in
       let free : h.at i ≡ 0 = omega (arith, e, W) in
@@ -134,7 +135,7 @@ module _ {S : Type 0} where
               (λ p y. hold_else max h.at h.keeper i num id k p (free_slot max h.at h.keeper i k p free y) y)
               (λ d y. told_claim max h.drawn num i h.at h.uid h.claimed d below over y));
         },
-        (ap (λ k. (after_claim v num k, me.1)) (sym e), met),
+        (ap (λ k. (after_claim v num k, me.1)) (sym e), own, met),
       ))
       (λ ne.
       let w : View = clerk v.max num v.claimed v.out in
@@ -168,5 +169,12 @@ module _ {S : Type 0} where
               (λ k u ne e. move max h.drawn num h.claimed h.claimed h.desk h.at h.at h.keeper h.keeper h.uid h.uid (passes_in s.views) (passes_in (set s.views id w)) k u (h.fits k u e)
               (λ _ d. no_desk max h.drawn num h.claimed h.claimed h.desk (passes_in s.views) (passes_in (set s.views id w)) id k u D.only ne d) (λ p y. y) (λ d y. y));
         },
-        (ap (λ k. (after_claim v num k, me.1)) (sym (positive r ne)), met),
+        (ap (λ k. (after_claim v num k, me.1)) (sym (positive r ne)), own, met),
       ))
+
+  pub claims : (max slots id : ℕ) (me : Me S View) (i j new : ℕ) → j ≡ 8 * i → i < max → new ≡ new / 4294967296 * 4294967296 → me.0.clerk ≡ true → me.0.pass ≡ false → me.0.calls ≡ [] → new / 4294967296 ≡ me.0.drawn + 1
+      → (new / 4294967296) % max ≡ i
+      → Allows (Kept max) slots id me j (λ n. either (eqb n 0) new n) (λ r n. (n ≡ (after_claim me.0 (me.0.drawn + 1) r, me.1)) × ((me.0.drawn + 1) % me.0.max ≡ i) × MetIn me.0.claimed me.0.max i r)
+  claims max slots id me i j new is lt whole is_clerk no_pass no_calls next slot =
+      subst (λ (k : ℕ). Allows (Kept max) slots id me j (λ n. either (eqb n 0) new n) (λ r n. (n ≡ (after_claim me.0 k r, me.1)) × (k % me.0.max ≡ i) × MetIn me.0.claimed me.0.max i r)) next
+          (tried_number max slots id me i j new is lt whole is_clerk no_pass no_calls (omega (arith, next)) slot)

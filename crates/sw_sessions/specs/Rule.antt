@@ -39,7 +39,7 @@ carrier max calls number = record { max = max; clerk = false; drawn = 0; claimed
 abbrev pub nobody : View
 nobody = record { max = 0; clerk = false; drawn = 0; claimed = []; out = 0; pass = false; calls = []; holds = false; number = 0; both = false; other = 0 }
 
--- the clerk's view after it tried a number and found r
+-- the clerk's view after it tried the number that it drew, and found r
 abbrev pub after_claim : View → ℕ → ℕ → View
 after_claim v number zero = claimer v.max number (v.claimed ++ number ∷ []) v.out number
 after_claim v number (suc r) = clerk v.max number v.claimed v.out

@@ -69,10 +69,10 @@ impl Book {
         self.table.shared.split_seat::<Enrolls>(place)
     }
 
-    /// Tries a number: a seat that holds it, where its slot was free.
+    /// Tries the next number: a seat that holds it, where its slot was free.
     pub fn claim(&self, place: &mut Place, number: u32) -> Option<Place>
         requires clerk { IsClerk (book_id self.now) place.old × (calls_at place.old ≡ []) }
-        requires number { drawn_at place.old < number }
+        requires number { number ≡ drawn_at place.old + 1 }
         ensures clerk { IsClerk (book_id self.now) place.new × (drawn_at place.new ≡ number) × (out_at place.new ≡ out_at place.old) × (calls_at place.new ≡ []) }
         ensures ticket { MatchOption result
             ((claimed_at place.new ≡ claimed_at place.old) × ((met : ℕ) × In met (claimed_at place.old) × (met % slots (book_id self.now) ≡ number % slots (book_id self.now))))

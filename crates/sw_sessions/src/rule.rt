@@ -48,14 +48,14 @@ impl TableRule<(), View, Size> for Books {
     ghost first = { λ k. clerk k.max k.last [] 0 };
 }
 
-/// The clerk tries a number.
+/// The clerk tries the next number, in its own slot.
 pub struct Claims;
 
 impl Play<(), View> for Claims {
-    ghost use Rattle.std.specs.Prelude.{◌≡◌, ◌/◌};
+    ghost use Rattle.std.specs.Prelude.{◌≡◌, ◌+◌, ◌/◌, ◌%◌};
     ghost use Rattle.sw_sessions.specs.Rule.{after_claim, MetIn};
 
-    ghost then = { λ s m r n. (n ≡ (after_claim m.0 (s.second / 4294967296) r, m.1)) × MetIn m.0.claimed m.0.max (s.word / 8) r };
+    ghost then = { λ s m r n. (n ≡ (after_claim m.0 (m.0.drawn + 1) r, m.1)) × ((m.0.drawn + 1) % m.0.max ≡ s.word / 8) × MetIn m.0.claimed m.0.max (s.word / 8) r };
 }
 
 /// The clerk gives the number that it holds to a ticket.
