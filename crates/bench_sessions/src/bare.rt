@@ -1,3 +1,4 @@
+//! A bare atomic word, to compare with.
 use std::sync::atomic::{AtomicU64, Ordering};
 
 /// One thread's bare word, on a cache line of its own, and what its calls found.

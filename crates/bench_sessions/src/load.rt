@@ -1,3 +1,4 @@
+//! The fixed load, and the figures.
 use crate::bare::Bare;
 use crate::player::Player;
 use std::alloc::Global;

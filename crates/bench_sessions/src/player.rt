@@ -1,3 +1,4 @@
+//! One thread at a book.
 use sw_data::Session;
 use sw_ports::{Book, Look};
 use sw_sessions::{Pass, Ticket};

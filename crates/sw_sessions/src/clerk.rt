@@ -1,3 +1,4 @@
+//! The door's part of a book: numbers are claimed here, and passes made.
 ghost use Rattle.std.specs.Prelude.{◌≡◌, ◌<◌, ◌≤◌, ◌+◌, ◌%◌, ℕ, List, [], ◌∷◌, ◌++◌, IfOk, IfErr, MatchOption, MatchBool};
 ghost use Rattle.sw_ports.specs.Claims.{In};
 ghost use Rattle.sw_sessions.specs.Values.{slots, clerk_now, pass_now, ticket_now, ClerkClaims};

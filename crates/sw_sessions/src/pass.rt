@@ -1,3 +1,4 @@
+//! An actor's part of a book.
 ghost use Rattle.std.specs.Prelude.{◌≡◌, ◌%◌, ⊤};
 ghost use Rattle.sw_sessions.specs.Values.{slots, called};
 ghost use Rattle.sw_sessions.specs.declared.rule.Call.TheVariants as call;

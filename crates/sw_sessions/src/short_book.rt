@@ -1,3 +1,4 @@
+//! How a book ends.
 ghost use Rattle.std.specs.Prelude.{◌≡◌, ◌≢◌, length, IfOk, MatchResult, All};
 ghost use Rattle.sw_sessions.specs.Calls.{Settled, BoundOnce, UidsOfBinds, ReleasesTell, NumbersClaimed};
 ghost use Rattle.sw_sessions.specs.Values.{slots, all_calls};

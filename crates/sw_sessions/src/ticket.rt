@@ -1,3 +1,4 @@
+//! What a link has of a book, from the claim of its number to the release.
 use crate::book::Place;
 use std::marker::Model;
 use sw_data::Session;

@@ -1,3 +1,4 @@
+//! The table of calls that both forms answer: its rows, and what any book does with one.
 ghost use Rattle.std.specs.Prelude.{◌<◌, IfSome, vec_len};
 ghost use Rattle.sw_ports.specs.Answers.{Keeps};
 

@@ -1,3 +1,4 @@
+//! A table of calls at the plain book.
 ghost use Rattle.std.specs.Prelude.{◌≡◌, ◌≤◌, ◌<◌, length, IfSome, vec_len};
 
 use crate::calls::{Asked, Heard, bind_to, look_at, place_of};

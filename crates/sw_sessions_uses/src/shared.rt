@@ -1,3 +1,4 @@
+//! A table of calls at the shared book.
 ghost use Rattle.std.specs.Prelude.{◌≡◌, ◌≤◌, All, IfSome};
 
 use crate::calls::{Asked, Heard, bind_to, look_at, place_of};

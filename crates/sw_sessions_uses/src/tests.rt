@@ -1,9 +1,11 @@
+//! The plain book and the shared one, beside each other and by threads.
 ghost use Rattle.std.specs.Prelude.{◌≤◌};
 
 use super::*;
 use std::alloc::Global;
 use std::process::Abort;
 use std::test::Fail;
+use sw_ports::BindFault;
 use sw_sessions::{close, make};
 
 /// A call and its answer.
@@ -110,18 +112,17 @@ fn one_of_two_threads_binds(rt: HostRuntime) -> Result<(), Fail> {
         let Some(outcome) = race(&rt, rt.alloc(), 4)? else {
             panic!(rt; "no number was claimed")
         };
-        let loser = match outcome.seven {
-            Heard::BindOk => outcome.nine,
-            _ => outcome.seven,
+        let (winner, loser) = match outcome.seven {
+            Ok(()) => (7, outcome.nine),
+            Err(_) => (9, outcome.seven),
         };
-        let winner = match outcome.seven {
-            Heard::BindOk => 7,
-            _ => 9,
+        let bound = match loser {
+            Err(BindFault::Bound(uid)) => uid,
+            _ => 0,
         };
-        assert_eq!(rt; loser, Heard::Bound(winner));
+        assert_eq!(rt; bound, winner);
         assert_eq!(rt; outcome.uid, winner);
-        assert!(rt; outcome.seven == Heard::BindOk || outcome.nine == Heard::BindOk);
-        assert!(rt; outcome.closed);
+        assert!(rt; outcome.seven.is_ok() || outcome.nine.is_ok());
     }
     Ok(())
 }
