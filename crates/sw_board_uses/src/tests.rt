@@ -77,12 +77,20 @@ fn both_answer<R: Abort>(
         if actor < sizes.actors {
             plain.turn_of(actor);
         }
-        assert_eq!(rt; made(&mut plain, sizes, call), said, "the plain form at call {at}");
+        assert_eq!(rt;
+            made(&mut plain, sizes, call),
+            said,
+            "the plain form at call {at}"
+        );
         let Some(seat) = seats.get_mut(actor as usize) else {
             panic!(rt; "no such seat")
         };
         let sizes = seat.sizes();
-        assert_eq!(rt; made(seat, sizes, call), said, "the shared form at call {at}");
+        assert_eq!(rt;
+            made(seat, sizes, call),
+            said,
+            "the shared form at call {at}"
+        );
     }
     Ok(())
 }
