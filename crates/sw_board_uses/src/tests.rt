@@ -1,7 +1,9 @@
 //! The plain board and the shared one, beside each other and by threads.
-ghost use Rattle.std.specs.Prelude.{◌≡◌};
+ghost use Rattle.std.specs.Prelude.{◌≡◌, ◌≤◌, ◌+◌};
 
 use crate::count_by_two;
+use std::alloc::Global;
+use std::process::Abort;
 use std::test::Fail;
 use std::thread;
 use sw_board::{Seat, close, make};
@@ -50,52 +52,88 @@ fn made<B: Board>(board: &mut B, sizes: Sizes, call: Call) -> Said
     Said::Nothing
 }
 
-// Two workers, a task worker and another actor: who calls what, and what is answered.
-const CALLS: [(u32, Call, Said); 24] = [
-    (0, Call::Idle(Crew::Workers, 1), Said::Nobody),
-    (3, Call::Idle(Crew::Taskers, 0), Said::Nobody),
-    (2, Call::Stopped, Said::Set(false)),
-    (0, Call::Mark(true), Said::Nothing),
-    (3, Call::Idle(Crew::Workers, 1), Said::Member(0)),
-    (3, Call::Idle(Crew::Taskers, 0), Said::Nobody),
-    (1, Call::Mark(true), Said::Nothing),
-    (0, Call::Idle(Crew::Workers, 1), Said::Member(1)),
-    (0, Call::Idle(Crew::Workers, 0), Said::Member(0)),
-    (2, Call::Mark(true), Said::Nothing),
-    (1, Call::Idle(Crew::Taskers, 0), Said::Member(0)),
-    (0, Call::Mark(false), Said::Nothing),
-    (2, Call::Idle(Crew::Workers, 0), Said::Member(1)),
-    (3, Call::Mark(true), Said::Nothing),
-    (2, Call::Mark(false), Said::Nothing),
-    (3, Call::Idle(Crew::Taskers, 0), Said::Nobody),
-    (0, Call::Add(Counter::Packets), Said::Nothing),
-    (2, Call::Add(Counter::Packets), Said::Nothing),
-    (3, Call::Add(Counter::Accepted), Said::Nothing),
-    (1, Call::Sum(Counter::Packets), Said::Total(2)),
-    (1, Call::Sum(Counter::Accepted), Said::Total(1)),
-    (1, Call::Sum(Counter::Finishes), Said::Total(0)),
-    (2, Call::Stop, Said::Nothing),
-    (0, Call::Stopped, Said::Set(true)),
-];
+// An actor, its call, and what is answered.
+#[derive(Clone, Copy)]
+struct Row(u32, Call, Said);
 
-#[test]
-fn both_forms_answer_alike(rt: HostRuntime) -> Result<(), Fail> {
-    let mut plain = PlainBoard::make(rt.alloc(), 2, 1, 4)?;
-    let mut seats = make(rt.alloc(), 2, 1, 4)?;
-    assert_eq!(rt; seats.len(), 4);
-    for (actor, call, said) in CALLS {
-        if actor < plain.sizes().actors {
+// Both forms of a board of so many workers, task workers and actors in all answer these calls so.
+fn both_answer<R: Abort>(
+    rt: &R,
+    alloc: Global,
+    workers: u32,
+    taskers: u32,
+    actors: u32,
+    rows: &[Row],
+) -> Result<(), Fail>
+    requires some { 1 ≤ actors }
+    requires within { workers + taskers ≤ actors }
+{
+    let mut plain = PlainBoard::make(alloc, workers, taskers, actors)?;
+    let mut seats = make(alloc, workers, taskers, actors)?;
+    assert_eq!(rt; seats.len(), actors as usize);
+    for (at, row) in rows.iter().enumerate() {
+        let Row(actor, call, said) = *row;
+        let sizes = plain.sizes();
+        if actor < sizes.actors {
             plain.turn_of(actor);
         }
-        let sizes = plain.sizes();
-        assert_eq!(rt; made(&mut plain, sizes, call), said);
+        assert_eq!(rt;
+            made(&mut plain, sizes, call),
+            said,
+            "the plain form at call {at}"
+        );
         let Some(seat) = seats.get_mut(actor as usize) else {
             panic!(rt; "no such seat")
         };
         let sizes = seat.sizes();
-        assert_eq!(rt; made(seat, sizes, call), said);
+        assert_eq!(rt;
+            made(seat, sizes, call),
+            said,
+            "the shared form at call {at}"
+        );
     }
     Ok(())
+}
+
+#[test]
+fn marks_adds_and_stops_are_found(rt: HostRuntime) -> Result<(), Fail> {
+    let rows = [
+        Row(2, Call::Idle(Crew::Workers, 1), Said::Nobody),
+        Row(0, Call::Mark(true), Said::Nothing),
+        Row(2, Call::Idle(Crew::Workers, 1), Said::Member(0)),
+        Row(0, Call::Add(Counter::Packets), Said::Nothing),
+        Row(2, Call::Add(Counter::Packets), Said::Nothing),
+        Row(1, Call::Sum(Counter::Packets), Said::Total(2)),
+        Row(1, Call::Stopped, Said::Set(false)),
+        Row(2, Call::Stop, Said::Nothing),
+        Row(0, Call::Stopped, Said::Set(true)),
+        Row(1, Call::Stopped, Said::Set(true)),
+        Row(0, Call::Stopped, Said::Set(true)),
+    ];
+    both_answer(&rt, rt.alloc(), 2, 1, 3, &rows)
+}
+
+#[test]
+fn who_is_in_no_crew_is_never_found(rt: HostRuntime) -> Result<(), Fail> {
+    let rows = [
+        Row(3, Call::Idle(Crew::Taskers, 0), Said::Nobody),
+        Row(0, Call::Mark(true), Said::Nothing),
+        Row(3, Call::Idle(Crew::Taskers, 0), Said::Nobody),
+        Row(1, Call::Mark(true), Said::Nothing),
+        Row(0, Call::Idle(Crew::Workers, 1), Said::Member(1)),
+        Row(0, Call::Idle(Crew::Workers, 0), Said::Member(0)),
+        Row(2, Call::Mark(true), Said::Nothing),
+        Row(1, Call::Idle(Crew::Taskers, 0), Said::Member(0)),
+        Row(0, Call::Mark(false), Said::Nothing),
+        Row(2, Call::Idle(Crew::Workers, 0), Said::Member(1)),
+        Row(3, Call::Mark(true), Said::Nothing),
+        Row(2, Call::Mark(false), Said::Nothing),
+        Row(3, Call::Idle(Crew::Taskers, 0), Said::Nobody),
+        Row(3, Call::Add(Counter::Accepted), Said::Nothing),
+        Row(1, Call::Sum(Counter::Accepted), Said::Total(1)),
+        Row(1, Call::Sum(Counter::Finishes), Said::Total(0)),
+    ];
+    both_answer(&rt, rt.alloc(), 2, 1, 4, &rows)
 }
 
 #[test]

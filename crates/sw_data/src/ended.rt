@@ -5,6 +5,11 @@ use crate::session::Session;
 pub enum Cause {
     /// A read of the link answered End.
     PeerEnd,
+    /// The bytes behind its last packet are no packet of at most the longest length: the length that is too long, in
+    /// bytes, or the longest length where none can be told.
+    TooLong(u64),
+    /// The length field behind its last packet tells of a packet that ends before its own head does: that length.
+    BadLength(u64),
 }
 
 /// What is said of a link at its end.

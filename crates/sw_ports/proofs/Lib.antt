@@ -1,1 +1,5 @@
 pub mod PlainBoards
+pub mod Members
+pub mod Tries
+pub mod PlainClaims
+pub mod Answered

@@ -1,0 +1,4 @@
+pub mod Calls
+pub mod Rule
+pub mod Values
+pub mod Places

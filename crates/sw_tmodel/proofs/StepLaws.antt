@@ -1,0 +1,247 @@
+use Rattle.std.proofs.Common.{◌≡◌, ◌≢◌, ℕ, ◌+◌, ◌-◌, ◌<◌, ◌≤◌, Bool, true, false, cond, ◌||◌, List, Option, Some, None, refl, ap, sym, ◌∙◌, subst, arith, eq-eqb, true≢false}
+use Rattle.std.proofs.lemmas.Bool.Decides.{nat_tests}
+use Rattle.std.specs.Prelude.{nat_eq, nat_lt, ℤ, ◌+ℤ◌, ◌-ℤ◌, unwrap_or, is_some}
+use Rattle.std.specs.Cmp.Lexicographic.{nat_list_cmp_total}
+use Rattle.std.specs.FinMap as map
+use Rattle.std.specs.FinMap.{len-insert, len-remove}
+use Rattle.sw_data.specs.declared.table.Value.{Value}
+use Rattle.sw_data.specs.declared.table.Value.TheVariants as values
+use Rattle.sw_data.specs.declared.table.Call.{Call}
+use Rattle.sw_data.specs.declared.table.Call.TheVariants.{Set, Get, Exist, Del, Incr, Decr, Count}
+use Rattle.sw_data.specs.declared.table.Reply.TheVariants.{Full, Yes, No}
+use Rattle.sw_column.specs.Fit.{fits}
+use Rattle.sw_column.specs.Values.{blank}
+use Rattle.sw_tmodel.specs.Rows.{with_value, with_pairs, number_of, size_of}
+use Rattle.sw_tmodel.specs.Table.{State, Shape, bucket, part, used, may_write, row_of, set_step, get_step, del_step, add_step, add, TStep}
+use Rattle.sw_tmodel.specs.Laws.{KeepsOthers, FullIsFull, LookAlike, AnswerAlike, BucketDecides, CountCounts, OtherBuckets}
+use Rattle.sw_tmodel.proofs.Maps.{get_other, removed_other, get_own, part_inserted, part_beside, part_removed, part_left}
+
+-- ---- no other key is changed
+
+keeps_set : (w : Bool) (s : State) (k q : List ℕ) (row : List Value) → q ≢ k → map.get (set_step w s k row).state q ≡ map.get s q
+keeps_set true s k q row ne = get_other s k row q ne
+keeps_set false s k q row ne = refl
+
+keeps_get : (o : Option (List Value)) (s : State) (q : List ℕ) → map.get (get_step s o).state q ≡ map.get s q
+keeps_get None s q = refl
+keeps_get (Some row) s q = refl
+
+keeps_del : (w : Bool) (s : State) (k q : List ℕ) → q ≢ k → map.get (del_step w s k).state q ≡ map.get s q
+keeps_del true s k q ne = removed_other s k q ne
+keeps_del false s k q ne = refl
+
+keeps_add : (f w : Bool) (s : State) (k q : List ℕ) (row : List Value) (v : ℤ) → q ≢ k → map.get (add_step f w s k row v).state q ≡ map.get s q
+keeps_add false w s k q row v ne = refl
+keeps_add true false s k q row v ne = refl
+keeps_add true true s k q row v ne = get_other s k row q ne
+
+other_key : (k q : List ℕ) → ¬ (Some k ≡ Some q) → q ≢ k
+other_key k q ne is = ne (ap Some (sym is))
+
+pub keeps_others : KeepsOthers
+keeps_others t s (Set k pairs) q ne = keeps_set _ s k q _ (other_key k q ne)
+keeps_others t s (Get k) q ne = keeps_get (map.get s k) s q
+keeps_others t s (Exist k) q ne = refl
+keeps_others t s (Del k) q ne = keeps_del _ s k q (other_key k q ne)
+keeps_others t s (Incr k name by) q ne = keeps_add _ _ s k q _ _ (other_key k q ne)
+keeps_others t s (Decr k name by) q ne = keeps_add _ _ s k q _ _ (other_key k q ne)
+keeps_others t s Count q ne = refl
+
+pub count_counts : CountCounts
+count_counts t s = (refl, refl)
+
+-- ---- Full
+
+none_of : (o : Option (List Value)) (a b : Bool) → (is_some o || (a || b)) ≡ false → (o ≡ None) × (a ≡ false) × (b ≡ false)
+none_of (Some x) a b e = absurd (true≢false e)
+none_of None true b e = absurd (true≢false e)
+none_of None false true e = absurd (true≢false e)
+none_of None false false e = (refl, refl, refl)
+
+occupied : (n : ℕ) → nat_eq n 0 ≡ false → 0 < n
+occupied n e = grind (arith, nat_tests)
+
+used_up : (u p : ℕ) → nat_lt u p ≡ false → p ≤ u
+used_up u p e = grind (arith, nat_tests)
+
+full_so : (t : Shape) (s : State) (key : List ℕ) → may_write t s key ≡ false → (map.get s key ≡ None) × (0 < map.len (part t.size s (bucket t.size key))) × (t.pool ≤ used t.size s)
+full_so t s key e =
+    let all = none_of (map.get s key) (nat_eq (map.len (part t.size s (bucket t.size key))) 0) (nat_lt (used t.size s) t.pool) e in
+    (all.0, occupied _ all.1, used_up _ _ all.2)
+
+full_set : (w : Bool) (s : State) (k : List ℕ) (row : List Value) → (set_step w s k row).reply ≡ Full → w ≡ false
+full_set true s k row e = cc
+full_set false s k row e = refl
+
+full_add : (f w : Bool) (s : State) (k : List ℕ) (row : List Value) (v : ℤ) → (add_step f w s k row v).reply ≡ Full → w ≡ false
+full_add false w s k row v e = cc
+full_add true true s k row v e = cc
+full_add true false s k row v e = refl
+
+never_get : (o : Option (List Value)) (s : State) → ¬ ((get_step s o).reply ≡ Full)
+never_get None s e = cc
+never_get (Some row) s e = cc
+
+never_del : (w : Bool) (s : State) (k : List ℕ) → ¬ ((del_step w s k).reply ≡ Full)
+never_del true s k e = cc
+never_del false s k e = cc
+
+never_exist : (w : Bool) → ¬ (cond w Yes No ≡ Full)
+never_exist true e = cc
+never_exist false e = cc
+
+at_key : (t : Shape) (s : State) (k key : List ℕ) → Some k ≡ Some key → may_write t s k ≡ false → (map.get s key ≡ None) × (0 < map.len (part t.size s (bucket t.size key))) × (t.pool ≤ used t.size s)
+at_key t s k key is e = let same : k ≡ key = cc in full_so t s key (ap (may_write t s) (sym same) ∙ e)
+
+pub full_is_full : FullIsFull
+full_is_full t s (Set k pairs) key is e = at_key t s k key is (full_set _ s k _ e)
+full_is_full t s (Get k) key is e = absurd (never_get (map.get s k) s e)
+full_is_full t s (Exist k) key is e = absurd (never_exist _ e)
+full_is_full t s (Del k) key is e = absurd (never_del _ s k e)
+full_is_full t s (Incr k name by) key is e = at_key t s k key is (full_add _ _ s k _ _ e)
+full_is_full t s (Decr k name by) key is e = at_key t s k key is (full_add _ _ s k _ _ e)
+full_is_full t s Count key is e = absurd (cc)
+
+-- ---- other buckets
+
+beside_set : (w : Bool) (size : ℕ) (s : State) (k : List ℕ) (row : List Value) (b : ℕ) → nat_eq (bucket size k) b ≡ false → part size (set_step w s k row).state b ≡ part size s b
+beside_set true size s k row b ne = part_beside size s b k row ne
+beside_set false size s k row b ne = refl
+
+beside_get : (o : Option (List Value)) (size : ℕ) (s : State) (b : ℕ) → part size (get_step s o).state b ≡ part size s b
+beside_get None size s b = refl
+beside_get (Some row) size s b = refl
+
+beside_del : (w : Bool) (size : ℕ) (s : State) (k : List ℕ) (b : ℕ) → nat_eq (bucket size k) b ≡ false → part size (del_step w s k).state b ≡ part size s b
+beside_del true size s k b ne = part_left size s b k ne
+beside_del false size s k b ne = refl
+
+beside_add : (f w : Bool) (size : ℕ) (s : State) (k : List ℕ) (row : List Value) (v : ℤ) (b : ℕ) → nat_eq (bucket size k) b ≡ false → part size (add_step f w s k row v).state b ≡ part size s b
+beside_add false w size s k row v b ne = refl
+beside_add true false size s k row v b ne = refl
+beside_add true true size s k row v b ne = part_beside size s b k row ne
+
+unequal : (a b : ℕ) → ¬ (a ≡ b) → nat_eq a b ≡ false
+unequal a b ne = grind (arith, nat_tests)
+
+other_bucket : (size b : ℕ) (k key : List ℕ) → Some k ≡ Some key → b ≢ bucket size key → nat_eq (bucket size k) b ≡ false
+other_bucket size b k key is ne = let same : k ≡ key = cc in unequal (bucket size k) b (λ e. ne (sym e ∙ ap (bucket size) same))
+
+pub other_buckets : OtherBuckets
+other_buckets t s (Set k pairs) key b is ne = beside_set _ t.size s k _ b (other_bucket t.size b k key is ne)
+other_buckets t s (Get k) key b is ne = beside_get (map.get s k) t.size s b
+other_buckets t s (Exist k) key b is ne = refl
+other_buckets t s (Del k) key b is ne = beside_del _ t.size s k b (other_bucket t.size b k key is ne)
+other_buckets t s (Incr k name by) key b is ne = beside_add _ _ t.size s k _ _ b (other_bucket t.size b k key is ne)
+other_buckets t s (Decr k name by) key b is ne = beside_add _ _ t.size s k _ _ b (other_bucket t.size b k key is ne)
+other_buckets t s Count key b is ne = refl
+
+-- ---- what follows from the bucket
+
+same_get : (t : Shape) (s z : State) (k : List ℕ) → LookAlike t s z (bucket t.size k) → map.get s k ≡ map.get z k
+same_get t s z k like = sym (get_own t.size s k) ∙ ap (λ (m : State). map.get m k) like.rows ∙ get_own t.size z k
+
+same_write : (t : Shape) (s z : State) (k : List ℕ) → LookAlike t s z (bucket t.size k) → may_write t s k ≡ may_write t z k
+same_write t s z k like =
+    ap (λ (o : Option (List Value)). is_some o || (nat_eq (map.len (part t.size s (bucket t.size k))) 0 || nat_lt (used t.size s) t.pool)) (same_get t s z k like)
+    ∙ ap (λ (m : State). is_some (map.get z k) || (nat_eq (map.len m) 0 || nat_lt (used t.size s) t.pool)) like.rows
+    ∙ ap (λ (b : Bool). is_some (map.get z k) || (nat_eq (map.len (part t.size z (bucket t.size k))) 0 || b)) like.pool
+
+same_row : (t : Shape) (s z : State) (k : List ℕ) → LookAlike t s z (bucket t.size k) → row_of t s k ≡ row_of t z k
+same_row t s z k like = ap (λ (o : Option (List Value)). unwrap_or o (blank t.columns)) (same_get t s z k like)
+
+own : (size : ℕ) (k : List ℕ) → nat_eq (bucket size k) (bucket size k) ≡ true
+own size k = eq-eqb (bucket size k) (bucket size k) refl
+
+rows_inserted : (t : Shape) (s z : State) (k : List ℕ) (row : List Value) → LookAlike t s z (bucket t.size k) → part t.size (map.insert s k row) (bucket t.size k) ≡ part t.size (map.insert z k row) (bucket t.size k)
+rows_inserted t s z k row like =
+    part_inserted t.size s (bucket t.size k) k row (own t.size k)
+    ∙ ap (λ (m : State). map.insert m k row) like.rows
+    ∙ sym (part_inserted t.size z (bucket t.size k) k row (own t.size k))
+
+count_inserted : (t : Shape) (s z : State) (k : List ℕ) (row : List Value) → LookAlike t s z (bucket t.size k) → map.len (map.insert s k row) ≡ map.len (map.insert z k row)
+count_inserted t s z k row like =
+    len-insert nat_list_cmp_total s k row
+    ∙ ap (λ (o : Option (List Value)). cond (is_some o) (map.len s) (map.len s + 1)) (same_get t s z k like)
+    ∙ ap (λ (n : ℕ). cond (is_some (map.get z k)) n (n + 1)) like.count
+    ∙ sym (len-insert nat_list_cmp_total z k row)
+
+rows_removed : (t : Shape) (s z : State) (k : List ℕ) → LookAlike t s z (bucket t.size k) → part t.size (map.remove s k) (bucket t.size k) ≡ part t.size (map.remove z k) (bucket t.size k)
+rows_removed t s z k like =
+    part_removed t.size s (bucket t.size k) k
+    ∙ ap (λ (m : State). map.remove m k) like.rows
+    ∙ sym (part_removed t.size z (bucket t.size k) k)
+
+count_removed : (t : Shape) (s z : State) (k : List ℕ) → LookAlike t s z (bucket t.size k) → map.len (map.remove s k) ≡ map.len (map.remove z k)
+count_removed t s z k like =
+    len-remove nat_list_cmp_total s k
+    ∙ ap (λ (o : Option (List Value)). cond (is_some o) (map.len s - 1) (map.len s)) (same_get t s z k like)
+    ∙ ap (λ (n : ℕ). cond (is_some (map.get z k)) (n - 1) n) like.count
+    ∙ sym (len-remove nat_list_cmp_total z k)
+
+like_set : (w : Bool) (t : Shape) (s z : State) (k : List ℕ) (row : List Value) → LookAlike t s z (bucket t.size k) → AnswerAlike t (set_step w s k row) (set_step w z k row) (bucket t.size k)
+like_set true t s z k row like = record { reply = refl; cells = refl; rows = rows_inserted t s z k row like; count = count_inserted t s z k row like }
+like_set false t s z k row like = record { reply = refl; cells = refl; rows = like.rows; count = like.count }
+
+like_get : (o : Option (List Value)) (t : Shape) (s z : State) (b : ℕ) → LookAlike t s z b → AnswerAlike t (get_step s o) (get_step z o) b
+like_get None t s z b like = record { reply = refl; cells = refl; rows = like.rows; count = like.count }
+like_get (Some row) t s z b like = record { reply = refl; cells = refl; rows = like.rows; count = like.count }
+
+like_del : (w : Bool) (t : Shape) (s z : State) (k : List ℕ) → LookAlike t s z (bucket t.size k) → AnswerAlike t (del_step w s k) (del_step w z k) (bucket t.size k)
+like_del true t s z k like = record { reply = refl; cells = refl; rows = rows_removed t s z k like; count = count_removed t s z k like }
+like_del false t s z k like = record { reply = refl; cells = refl; rows = like.rows; count = like.count }
+
+like_add : (f w : Bool) (t : Shape) (s z : State) (k : List ℕ) (row : List Value) (v : ℤ) → LookAlike t s z (bucket t.size k) → AnswerAlike t (add_step f w s k row v) (add_step f w z k row v) (bucket t.size k)
+like_add false w t s z k row v like = record { reply = refl; cells = refl; rows = like.rows; count = like.count }
+like_add true false t s z k row v like = record { reply = refl; cells = refl; rows = like.rows; count = like.count }
+like_add true true t s z k row v like = record { reply = refl; cells = refl; rows = rows_inserted t s z k row like; count = count_inserted t s z k row like }
+
+like_add_at : (t : Shape) (s z : State) (k name : List ℕ) (v : ℤ) → LookAlike t s z (bucket t.size k) → AnswerAlike t (add t s k name v) (add t z k name v) (bucket t.size k)
+like_add_at t s z k name v like =
+    let sized = like_add (fits (size_of t.columns name) v) (may_write t s k) t s z k (with_value t.columns (row_of t s k) name (values.Int v)) v like in
+    subst (λ (r : List Value). AnswerAlike t (add t s k name v) (add_step (fits (size_of t.columns name) v) (may_write t z k) z k (with_value t.columns r name (values.Int v)) v) (bucket t.size k)) (same_row t s z k like)
+    (subst (λ (w : Bool). AnswerAlike t (add t s k name v) (add_step (fits (size_of t.columns name) v) w z k (with_value t.columns (row_of t s k) name (values.Int v)) v) (bucket t.size k)) (same_write t s z k like) sized)
+
+like_set_at : (t : Shape) (s z : State) (k : List ℕ) (pairs : List (List ℕ × Value)) → LookAlike t s z (bucket t.size k) → AnswerAlike t (TStep t s (Set k pairs)) (TStep t z (Set k pairs)) (bucket t.size k)
+like_set_at t s z k pairs like =
+    subst (λ (r : List Value). AnswerAlike t (TStep t s (Set k pairs)) (set_step (may_write t z k) z k (with_pairs t.columns r pairs)) (bucket t.size k)) (same_row t s z k like)
+    (subst (λ (w : Bool). AnswerAlike t (TStep t s (Set k pairs)) (set_step w z k (with_pairs t.columns (row_of t s k) pairs)) (bucket t.size k)) (same_write t s z k like)
+    (like_set (may_write t s k) t s z k (with_pairs t.columns (row_of t s k) pairs) like))
+
+like_get_at : (t : Shape) (s z : State) (k : List ℕ) → LookAlike t s z (bucket t.size k) → AnswerAlike t (TStep t s (Get k)) (TStep t z (Get k)) (bucket t.size k)
+like_get_at t s z k like =
+    subst (λ (o : Option (List Value)). AnswerAlike t (TStep t s (Get k)) (get_step z o) (bucket t.size k)) (same_get t s z k like) (like_get (map.get s k) t s z (bucket t.size k) like)
+
+like_exist_at : (t : Shape) (s z : State) (k : List ℕ) → LookAlike t s z (bucket t.size k) → AnswerAlike t (TStep t s (Exist k)) (TStep t z (Exist k)) (bucket t.size k)
+like_exist_at t s z k like = record { reply = ap (λ (o : Option (List Value)). cond (is_some o) Yes No) (same_get t s z k like); cells = refl; rows = like.rows; count = like.count }
+
+like_del_at : (t : Shape) (s z : State) (k : List ℕ) → LookAlike t s z (bucket t.size k) → AnswerAlike t (TStep t s (Del k)) (TStep t z (Del k)) (bucket t.size k)
+like_del_at t s z k like =
+    subst (λ (o : Option (List Value)). AnswerAlike t (TStep t s (Del k)) (del_step (is_some o) z k) (bucket t.size k)) (same_get t s z k like) (like_del (is_some (map.get s k)) t s z k like)
+
+like_incr_at : (t : Shape) (s z : State) (k name : List ℕ) (by : ℤ) → LookAlike t s z (bucket t.size k) → AnswerAlike t (TStep t s (Incr k name by)) (TStep t z (Incr k name by)) (bucket t.size k)
+like_incr_at t s z k name by like =
+    subst (λ (r : List Value). AnswerAlike t (TStep t s (Incr k name by)) (add t z k name (number_of t.columns r name +ℤ by)) (bucket t.size k)) (same_row t s z k like)
+    (like_add_at t s z k name (number_of t.columns (row_of t s k) name +ℤ by) like)
+
+like_decr_at : (t : Shape) (s z : State) (k name : List ℕ) (by : ℤ) → LookAlike t s z (bucket t.size k) → AnswerAlike t (TStep t s (Decr k name by)) (TStep t z (Decr k name by)) (bucket t.size k)
+like_decr_at t s z k name by like =
+    subst (λ (r : List Value). AnswerAlike t (TStep t s (Decr k name by)) (add t z k name (number_of t.columns r name -ℤ by)) (bucket t.size k)) (same_row t s z k like)
+    (like_add_at t s z k name (number_of t.columns (row_of t s k) name -ℤ by) like)
+
+-- the steps at the call's own key, and then at an equal one
+Alike : (t : Shape) (s z : State) (call : Call) (k : List ℕ) → Type 0
+Alike t s z call k = LookAlike t s z (bucket t.size k) → AnswerAlike t (TStep t s call) (TStep t z call) (bucket t.size k)
+
+named : (t : Shape) (s z : State) (call : Call) (k key : List ℕ) → Some k ≡ Some key → Alike t s z call k → Alike t s z call key
+named t s z call k key is alike = let same : k ≡ key = cc in subst (Alike t s z call) same alike
+
+pub bucket_decides : BucketDecides
+unfolding Alike
+bucket_decides t s z (Set k pairs) key is like = named t s z (Set k pairs) k key is (like_set_at t s z k pairs) like
+bucket_decides t s z (Get k) key is like = named t s z (Get k) k key is (like_get_at t s z k) like
+bucket_decides t s z (Exist k) key is like = named t s z (Exist k) k key is (like_exist_at t s z k) like
+bucket_decides t s z (Del k) key is like = named t s z (Del k) k key is (like_del_at t s z k) like
+bucket_decides t s z (Incr k name by) key is like = named t s z (Incr k name by) k key is (like_incr_at t s z k name by) like
+bucket_decides t s z (Decr k name by) key is like = named t s z (Decr k name by) k key is (like_decr_at t s z k name by) like
+bucket_decides t s z Count key is like = absurd (cc)

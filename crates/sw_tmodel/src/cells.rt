@@ -1,0 +1,110 @@
+ghost use Rattle.std.specs.Prelude.{◌≡◌, ◌≤◌, ◌<◌, None, map, length, slice_get, slice_set};
+ghost use Rattle.sw_data.specs.declared.table.Value.TheVariants as values;
+ghost use Rattle.sw_column.specs.Columns.{column_of};
+ghost use Rattle.sw_column.specs.Cells.{cell_value, blanked};
+ghost use Rattle.sw_column.specs.Fit.{pairs_fault, at_column};
+ghost use Rattle.sw_column.specs.Values.{HasKinds, blank};
+ghost use Rattle.sw_tmodel.specs.Rows.{with_pairs, with_value, number_of, number_in};
+ghost use Rattle.sw_tmodel.specs.PlainRows.{AreCells, IsPlaceFor, cell_with};
+ghost use Rattle.std.specs.Prelude.{Some};
+
+use sw_column::{Cell, RowBuf, Schema};
+use sw_data::{Pairs, Value};
+
+/// 0 and empty texts in all cells.
+pub fn clear(cells: &mut [Cell], schema: &Schema)
+    requires { AreCells schema.now cells.old }
+    ensures kept { AreCells schema.now cells.new }
+    ensures blank { map cell_value cells.new ≡ blank schema.now }
+{
+    let _ = schema;
+    clear_each(cells);
+}
+
+fn clear_each(cells: &mut [Cell])
+    ensures { cells.new ≡ map blanked cells.old }
+{
+    for cell in cells.iter_mut() {
+        cell.clear();
+    }
+}
+
+/// Another value in a cell.
+fn put(cell: &mut Cell, value: &Value)
+    ensures { cell.new ≡ cell_with cell.old value.now }
+{
+    match value {
+        Value::Int(n) => cell.put_int(*n),
+        Value::Text(text) => cell.put_text(text.bytes()),
+    }
+}
+
+/// Writes a value that fits in the cell of its column.
+pub fn put_pair(cells: &mut [Cell], schema: &Schema, name: &[u8], value: &Value)
+    requires cells { AreCells schema.now cells.old }
+    requires fit { at_column (column_of schema.now name.now) value.now ≡ None }
+    ensures kept { AreCells schema.now cells.new }
+    ensures written { map cell_value cells.new ≡ with_value schema.now (map cell_value cells.old) name.now value.now }
+{
+    match schema.place(name) {
+        None => (),
+        Some(at) => put(&mut cells[at], value),
+    }
+}
+
+/// Writes values that fit in the cells of their columns, in their order.
+pub fn put_pairs(cells: &mut [Cell], schema: &Schema, pairs: &Pairs)
+    requires cells { AreCells schema.now cells.old }
+    requires fit { pairs_fault schema.now pairs.now ≡ None }
+    ensures kept { AreCells schema.now cells.new }
+    ensures written { map cell_value cells.new ≡ with_pairs schema.now (map cell_value cells.old) pairs.now }
+{
+    for pair in pairs.as_slice() {
+        put_pair(cells, schema, pair.0.bytes(), &pair.1);
+    }
+}
+
+/// The number in a cell, and 0 for a text.
+fn number_in(cell: &Cell) -> i64
+    ensures { result ≡ number_in (Some (cell_value cell.now)) }
+{
+    match cell {
+        Cell::Int(n) => *n,
+        Cell::Text(_) => 0,
+    }
+}
+
+/// The number in the cell of a column.
+pub fn number(cells: &[Cell], schema: &Schema, name: &[u8]) -> i64
+    requires { AreCells schema.now cells.now }
+    ensures { result ≡ number_of schema.now (map cell_value cells.now) name.now }
+{
+    match schema.place(name) {
+        None => 0,
+        Some(at) => number_in(&cells[at]),
+    }
+}
+
+/// Writes the values of the cells into a buffer.
+pub fn show(cells: &[Cell], schema: &Schema, row: &mut RowBuf)
+    requires cells { AreCells schema.now cells.now }
+    requires row { HasKinds schema.now row.old }
+    ensures value { row.new ≡ map cell_value cells.now }
+    ensures kinds { HasKinds schema.now row.new }
+{
+    schema.is_sound();
+    for (at, cell) in cells.iter().enumerate() {
+        show_cell(cell, at, row);
+    }
+}
+
+/// Writes the value of a cell into a buffer.
+fn show_cell(cell: &Cell, at: usize, row: &mut RowBuf)
+    requires { IsPlaceFor cell.now (slice_get row.old at) }
+    ensures { row.new ≡ slice_set row.old at (cell_value cell.now) }
+{
+    match cell {
+        Cell::Int(n) => row.set_int(at, *n),
+        Cell::Text(text) => row.set_text(at, text.text()),
+    }
+}
