@@ -1,5 +1,5 @@
-use Rattle.std.proofs.Common.{◌≡◌, ℕ, ◌<◌, ◌≤◌, Bool, true, false, cond, not, ◌&&◌, List, [], ◌∷◌, length, Option, Some, None, refl, sym, ap, subst, true≢false, arith, leb}
-use Rattle.std.specs.Prelude.{IfSome, codes, is_none, nat_le, ℤ, pos, negsuc}
+use Rattle.std.proofs.Common.{◌≡◌, ℕ, ◌<◌, ◌≤◌, Bool, true, false, cond, not, ◌&&◌, List, [], ◌∷◌, length, Option, Some, None, Result, Ok, Err, refl, sym, ap, subst, true≢false, arith, leb}
+use Rattle.std.specs.Prelude.{IfSome, IfOk, codes, is_none, nat_le}
 use Rattle.std.specs.Option.{option_map, option_or, option_copied}
 use Rattle.std.specs.Borrow.{Bor}
 use Rattle.std.specs.Str.{bytes_eq}
@@ -14,8 +14,8 @@ use Rattle.sw_settings.specs.declared.keys.Rule.{Rule}
 use Rattle.sw_settings.specs.declared.faults.SettingsFault.{SettingsFault}
 use Rattle.sw_settings.specs.declared.faults.SettingsFault.TheVariants.{BadType, Missing}
 use Rattle.sw_settings.specs.Keys.{rule_of}
-use Rattle.sw_settings.specs.Checks.{fails, fails_by, earlier, first_behind, first_key, in_bounds}
-use Rattle.sw_settings.specs.Values.{given, truth_of, text_or, text_of, natural, IsSound}
+use Rattle.sw_settings.specs.Checks.{fails, fails_by, earlier, first_behind, first_key}
+use Rattle.sw_settings.specs.Values.{given, truth_of, text_or, text_of, IsSound}
 use Rattle.sw_settings.specs.Faults.{unknown_fault, type_fault, out_of_range, range_fault, missing_fault, conflict_fault, from_missing, from_range, from_type, fault_of}
 
 -- ---- pairs without a fault have none of any kind
@@ -84,10 +84,10 @@ sound_by : (r : Option Rule) (v : SetValue) → fails_by checks.Kind r v ≡ fal
 sound_by None v k r = tt
 sound_by (Some rule) v k r = (not_false _ k, not_false _ r)
 
-sound : (ps : List Pair) → fault_of ps ≡ None → (name : List ℕ) (v : SetValue) → given name ps ≡ Some v → IsSound (rule_of name) v
+pub sound : (ps : List Pair) → fault_of ps ≡ None → (name : List ℕ) (v : SetValue) → given name ps ≡ Some v → IsSound (rule_of name) v
 sound ps e name v g =
-    let no = no_fault ps e in
-    sound_by (rule_of name) v (none_fails checks.Kind ps name v (no_kind ps no.kind) g) (none_fails checks.Range ps name v (no_range ps no.range) g)
+    let free = no_fault ps e in
+    sound_by (rule_of name) v (none_fails checks.Kind ps name v (no_kind ps free.kind) g) (none_fails checks.Range ps name v (no_range ps free.range) g)
 
 -- the value that pairs without a fault give to a key is of its kind and in its range
 pub sound_seen : (ps : List Pair) (name : List ℕ) (r : Option (Bor SetValue)) → fault_of ps ≡ None → option_copied r ≡ given name ps → IfSome r (λ v. IsSound (rule_of name) v.now)
@@ -112,7 +112,7 @@ text_given (Some (values.Number n)) t e = absurd cc
 text_given (Some (values.Truth b)) t e = absurd cc
 text_given (Some (values.Text u)) t e = cc
 
-within : (least most n : ℕ) (a b : Bool) → nat_le least n ≡ a → nat_le n most ≡ b → (a && b) ≡ true → (least ≤ n) × (n ≤ most)
+pub within : (least most n : ℕ) (a b : Bool) → nat_le least n ≡ a → nat_le n most ≡ b → (a && b) ≡ true → (least ≤ n) × (n ≤ most)
 within least most n true true p q e = (leb-true least n p, leb-true n most q)
 within least most n true false p q e = absurd (true≢false (sym e))
 within least most n false b p q e = absurd (true≢false (sym e))
@@ -125,8 +125,6 @@ mark_fits ps e t is =
     let s = sound ps e (codes "package_eof") (values.Text t) found in
     within 1 8 (length t) (nat_le 1 (length t)) (nat_le (length t) 8) refl refl s.1
 
--- ---- a number in its range
-
-pub in_range : (least most : ℕ) (n : ℤ) → in_bounds least most n ≡ true → (n ≡ pos (natural n)) × (least ≤ natural n) × (natural n ≤ most)
-in_range least most (pos n) e = let w = within least most n (nat_le least n) (nat_le n most) refl refl e in (refl, w.0, w.1)
-in_range least most (negsuc n) e = absurd (true≢false (sym e))
+pub copy_fits : {E : Type 0} (ps : List Pair) → fault_of ps ≡ None → (t : List ℕ) → Some t ≡ text_of (codes "package_eof") ps → (r : Result (List ℕ) E) → IfOk r (λ o. o ≡ t) → IfOk r (λ m. (0 < length m) × (length m ≤ 8))
+copy_fits ps e t is (Ok m) same = subst (λ (bs : List ℕ). (0 < length bs) × (length bs ≤ 8)) (sym same) (mark_fits ps e t (sym is))
+copy_fits ps e t is (Err x) same = tt

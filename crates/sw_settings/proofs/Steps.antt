@@ -17,10 +17,10 @@ given_at name ps i p t lt is test =
     rw test at here
 
 pub given_next : (name : List ℕ) (ps : List Pair) (i : ℕ) (p : Pair) (t : Bool) (total : Option SetValue) → i < length ps → p ≡ get_or ps i p → t ≡ bytes_eq p.name name → t ≡ false → given name (drop i ps) ≡ total → given name (drop (i + 1) ps) ≡ total
-given_next name ps i p t total lt is test no so_far = sym (given_at name ps i p false lt is (sym test ∙ no)) ∙ so_far
+given_next name ps i p t total lt is test other so_far = sym (given_at name ps i p false lt is (sym test ∙ other)) ∙ so_far
 
 pub given_here : (name : List ℕ) (ps : List Pair) (i : ℕ) (p : Pair) (t : Bool) (total : Option SetValue) → i < length ps → p ≡ get_or ps i p → t ≡ bytes_eq p.name name → t ≡ true → given name (drop i ps) ≡ total → Some p.value ≡ total
-given_here name ps i p t total lt is test yes so_far = sym (given_at name ps i p true lt is (sym test ∙ yes)) ∙ so_far
+given_here name ps i p t total lt is test same so_far = sym (given_at name ps i p true lt is (sym test ∙ same)) ∙ so_far
 
 pub given_done : (name : List ℕ) (ps : List Pair) (i : ℕ) (total : Option SetValue) → length ps ≤ i → given name (drop i ps) ≡ total → None ≡ total
 unfolding given

@@ -1,5 +1,6 @@
 -- What may be wrong with a pair alone, and which key has it first.
-use Rattle.std.specs.Prelude.{ℕ, List, [], ◌∷◌, length, Bool, true, false, not, ◌&&◌, nat_lt, nat_le, Option, Some, None, is_some, if◌then◌else◌, ℤ, pos, negsuc}
+use Rattle.std.specs.Prelude.{◌≡◌, ◌⊎◌, ℕ, List, [], ◌∷◌, length, Bool, true, false, not, ◌&&◌, nat_lt, nat_le, Option, Some, None, is_some, if◌then◌else◌, ℤ, pos, negsuc}
+use Rattle.std.specs.List.{AllByRecursion}
 use Rattle.std.specs.Ordering.{nat_cmp, is_lt}
 use Rattle.std.specs.Cmp.Lexicographic.{slice_cmp}
 use Rattle.sw_settings.specs.declared.pair.SetValue.{SetValue}
@@ -105,3 +106,19 @@ first_behind check first (p ∷ ps) = first_behind check (first_with check first
 -- the first key, in byte order, of the pairs that the check refuses
 abbrev pub first_key : Check → List Pair → Option (List ℕ)
 first_key check ps = first_behind check None ps
+
+-- ---- what that key is
+
+-- the check refuses one of the pairs, which has this key
+abbrev pub HasFailing : Check → List ℕ → List Pair → Type 0
+HasFailing check key [] = ⊥
+HasFailing check key (p ∷ ps) = ((fails check p ≡ true) × (p.name ≡ key)) ⊎ HasFailing check key ps
+
+-- the check refuses no pair whose name comes before this key
+abbrev pub NoneBefore : Check → List ℕ → List Pair → Type 0
+NoneBefore check key ps = AllByRecursion (λ (p : Pair). fails check p ≡ true → is_before p.name key ≡ false) ps
+
+-- a first key is one of a pair that the check refuses, and none comes before it; without one the check refuses no pair
+abbrev pub IsFirstKey : Check → List Pair → Option (List ℕ) → Type 0
+IsFirstKey check ps None = AllByRecursion (λ (p : Pair). fails check p ≡ false) ps
+IsFirstKey check ps (Some key) = HasFailing check key ps × NoneBefore check key ps

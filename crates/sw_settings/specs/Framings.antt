@@ -29,7 +29,7 @@ abbrev pub mark_of : List Pair → List ℕ
 mark_of ps = unwrap_or (text_of (codes "package_eof") ps) []
 
 -- how a stream is cut: at the mark, by the length field, or piece by piece
-abbrev pub framing_of : List Pair → Framing
+unfoldable pub framing_of : List Pair → Framing
 framing_of ps =
     if truth_of (codes "open_eof_split") ps then Eof (mark_of ps) (number_of (codes "package_max_length") ps)
     else if truth_of (codes "open_length_check") ps then Length (length_rule ps)

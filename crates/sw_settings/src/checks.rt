@@ -1,8 +1,8 @@
 // What may be wrong with a pair alone.
 
-ghost use Rattle.std.specs.Prelude.{◌≡◌};
+ghost use Rattle.std.specs.Prelude.{◌≡◌, List};
 ghost use Rattle.std.specs.Option.{option_copied};
-ghost use Rattle.sw_settings.specs.Checks.{is_word, fits_word, is_text, is_truth, is_letter, is_of_kind, in_bounds, number_within, length_within, is_in_range, is_of_no_key, breaks, fails, is_before, earlier, earlier_or, first_with, first_key};
+ghost use Rattle.sw_settings.specs.Checks.{is_word, fits_word, is_text, is_truth, is_letter, is_of_kind, in_bounds, number_within, length_within, is_in_range, is_of_no_key, breaks, fails, is_before, earlier, earlier_or, first_with, first_key, IsFirstKey};
 
 use crate::keys::{Rule, letter_of, rule_of};
 use crate::pair::{Pair, SetValue};
@@ -192,3 +192,8 @@ pub fn first_key<'a>(check: Check, pairs: &'a [Pair]) -> Option<&'a Octets>
     }
     first
 }
+
+/// The first key is that of a pair that the check refuses, and none of these comes before it in byte order.
+pub fn first_key_is_exact(check: Check)
+    ensures { (pairs : List Pair) → IsFirstKey check pairs (first_key check pairs) }
+{}

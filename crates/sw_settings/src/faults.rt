@@ -2,6 +2,7 @@
 
 ghost use Rattle.std.specs.Prelude.{◌≡◌, IfOk, codes, None, Some};
 ghost use Rattle.std.specs.Option.{option_copied};
+ghost use Rattle.sw_settings.specs.Checks.{first_key};
 ghost use Rattle.sw_settings.specs.Faults.{unknown_fault, type_fault, range_fault, out_of_range, out_of_rule, missing_fault, conflict_fault, fault_of, from_type, from_range, from_missing};
 
 use crate::checks::{Check, first_key};

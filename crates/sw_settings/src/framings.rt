@@ -23,13 +23,19 @@ pub fn length_type(pairs: &[Pair]) -> Option<Letter>
     letter_of(text.bytes())
 }
 
+fn letter(pairs: &[Pair]) -> Letter
+    ensures { result ≡ unwrap_or (length_type pairs.now) Letter.C }
+{
+    length_type(pairs).unwrap_or(Letter::C)
+}
+
 #[tactic(auto, unfolding(crate::specs::Keys::rule_of))]
 fn length_rule(pairs: &[Pair]) -> LengthRule
     requires { fault_of pairs.now ≡ None }
     ensures { result ≡ length_rule pairs.now }
 {
     LengthRule {
-        letter: length_type(pairs).unwrap_or(Letter::C),
+        letter: letter(pairs),
         length_offset: number(pairs, "package_length_offset") as u32,
         body_offset: number(pairs, "package_body_offset") as u32,
         max: number(pairs, "package_max_length"),

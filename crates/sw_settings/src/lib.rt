@@ -10,6 +10,7 @@ mod pair;
 mod settings;
 mod values;
 
+pub use checks::{Check, first_key_is_exact};
 pub use faults::SettingsFault;
 pub use pair::{Pair, SetValue};
 pub use settings::{Settings, from_pairs};
