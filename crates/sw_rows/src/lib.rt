@@ -4,6 +4,8 @@
 #[cfg(test)]
 mod end_of_link;
 #[cfg(test)]
+mod framings;
+#[cfg(test)]
 mod one_step_at_a_time;
 #[cfg(test)]
 mod playing;
