@@ -1,5 +1,5 @@
 -- A reactor's turn keeps its law, whatever the pipe answers to what it asks for.
-use Rattle.std.proofs.Common.{◌≡◌, ℕ, ◌+◌, ◌-◌, ◌^◌, ◌<◌, ◌≤◌, ◌==◌, Bool, true, false, nat_lt, if◌then◌else◌, List, [], ◌∷◌, ◌++◌, length, take, refl, ap, ◌∙◌, sym, subst, append-nil, append_assoc, arith, Option, Some, None, slice_get, get_or, inl, inr, length-append, take_all}
+use Rattle.std.proofs.Common.{◌≡◌, ℕ, ◌+◌, ◌-◌, ◌^◌, ◌%◌, ◌<◌, ◌≤◌, ◌==◌, Bool, true, false, nat_lt, if◌then◌else◌, List, [], ◌∷◌, ◌++◌, length, take, refl, ap, ◌∙◌, sym, subst, append-nil, append_assoc, arith, Option, Some, None, slice_get, get_or, inl, inr, length-append, take_all}
 use Rattle.std.specs.List.{concat}
 use Rattle.std.proofs.lemmas.Option.{slice_get_within, slice_get-get_or}
 use Rattle.std.proofs.lemmas.List.{take-append-le}
@@ -314,6 +314,9 @@ moved_keeps r taken es d reads true Still k = moved_still r.empty k
 moved_keeps r taken es d reads wrote End k = k
 
 -- the connection leaves
+over_said : (c : Conn) (n : ℕ) (why : Cause) → c.dispatched ≡ n → c.cause ≡ Some why → ended_of c ≡ record { session = Some c.session; fd = c.session % 1024; ip = c.ip; uid = 0; dispatched = n; split = n; cause = why }
+over_said c n why d e = rw (d, e) refl
+
 over_keeps : (framing : Framing) (c : Conn) (taken : List (Msg Link ℕ)) (es : List Event) → c.unsent ≡ [] → c.closed ≡ true → c.awaiting ≡ false → IsServed framing c taken es → IsOver framing (record { link = c.link; ended = ended_of c }) taken es
 over_keeps framing c taken es sent closed done s =
     let b = s.bare in
@@ -325,7 +328,7 @@ over_keeps framing c taken es sent closed done s =
       ip = c.ip;
       cause = why.0;
       came = s.fed.came;
-      said = rw (all.0, why.1) refl;
+      said = over_said c (length (packets_of framing c.link.pieces)) why.0 all.0 why.1;
       why = all.1;
       told = s.told ∙ rw (opened, closed, all.0) (ap (λ ps. story c.session true ps true) (take_all (length (packets_of framing c.link.pieces)) (packets_of framing c.link.pieces) (omega arith)));
       until = taken;
