@@ -5,9 +5,11 @@ use std::test::Fail;
 
 const SHORT: &str = "set open_eof_split true\nset package_eof x0d0a\nset package_max_length 4\n";
 
-const WHOLE: &str = "set open_length_check true\nset package_length_type =N\nset package_max_length 8\n";
+const WHOLE: &str =
+    "set open_length_check true\nset package_length_type =N\nset package_max_length 8\n";
 
-const FAR: &str = "set open_length_check true\nset package_length_type =N\nset package_max_length 3\n";
+const FAR: &str =
+    "set open_length_check true\nset package_length_type =N\nset package_max_length 3\n";
 
 #[test]
 fn faults(rt: HostRuntime) -> Result<(), Fail> {

@@ -3,7 +3,8 @@
 use crate::playing::plays_with;
 use std::test::Fail;
 
-const LENGTH: &str = "set open_length_check true\nset package_length_type =N\nset package_body_offset 4\n";
+const LENGTH: &str =
+    "set open_length_check true\nset package_length_type =N\nset package_body_offset 4\n";
 
 #[test]
 fn framings(rt: HostRuntime) -> Result<(), Fail> {

@@ -9,7 +9,7 @@ use Rattle.sw_record_rows.specs.Rows.{marked, only_link, early_fault}
 use Rattle.sw_record_rows.proofs.fault_before_a_packet_is_refused.Goals as goal
 
 one : length (packets_on marked early_fault) ≡ 1
-unfolding cut, parts_of, first_in
+unfolding cut parts_of first_in
 one = refl
 
 wrong : (own : Own (only_link early_fault)) → Whole marked (only_link early_fault) own → ⊥

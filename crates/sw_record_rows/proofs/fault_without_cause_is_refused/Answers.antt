@@ -9,7 +9,7 @@ use Rattle.sw_record_rows.specs.Rows.{marked, only_link, no_fault}
 use Rattle.sw_record_rows.proofs.fault_without_cause_is_refused.Goals as goal
 
 none : (cut marked.framing no_fault.pieces).fault ≡ None
-unfolding cut, parts_of, first_in
+unfolding cut parts_of first_in
 none = refl
 
 wrong : CausesRight marked (only_link no_fault) (false ∷ []) → ⊥

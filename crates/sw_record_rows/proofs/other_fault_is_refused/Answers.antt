@@ -9,7 +9,7 @@ use Rattle.sw_record_rows.specs.Rows.{marked, only_link, other_fault}
 use Rattle.sw_record_rows.proofs.other_fault_is_refused.Goals as goal
 
 too_long : (cut marked.framing other_fault.pieces).fault ≡ Some (first.TooLong 4)
-unfolding cut, parts_of, first_in
+unfolding cut parts_of first_in
 too_long = refl
 
 wrong : CausesRight marked (only_link other_fault) (false ∷ []) → ⊥
