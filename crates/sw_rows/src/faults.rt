@@ -1,6 +1,6 @@
 // Links that end since their bytes are no packets.
 
-use crate::playing::plays_with;
+use crate::playing::plays_under;
 use std::test::Fail;
 
 const SHORT: &str = "set open_eof_split true\nset package_eof x0d0a\nset package_max_length 4\n";
@@ -143,7 +143,7 @@ w0 closed 1 -> done
         ),
     ];
     for (settings, schedule, wanted) in rows {
-        plays_with(&rt, rt.alloc(), settings, schedule, wanted)?;
+        plays_under(&rt, rt.alloc(), settings, schedule, wanted)?;
     }
     Ok(())
 }

@@ -1,4 +1,4 @@
-// A schedule behind one link's arrival, played by the command.
+// A schedule of one link, played by the command.
 
 use std::alloc::Global;
 use std::process::Abort;
@@ -7,15 +7,10 @@ use sw_causes::{MemorySink, SureSource};
 use sw_top::{Status, Word, tool};
 
 /// The settings of a mark of two bytes.
-pub const MARK: &str = "set open_eof_split true\nset package_eof x0d0a\n";
+const MARK: &str = "set open_eof_split true\nset package_eof x0d0a\n";
 
-/// Plays the schedule with a mark of two bytes, and compares what is printed.
-pub fn plays(rt: &impl Abort, alloc: Global, schedule: &str, wanted: &str) -> Result<(), Fail> {
-    plays_with(rt, alloc, MARK, schedule, wanted)
-}
-
-/// Plays the schedule with these lines of settings, and compares what is printed.
-pub fn plays_with(
+/// Plays the schedule behind one link's arrival under these settings, and compares what is printed.
+pub fn plays_under(
     rt: &impl Abort,
     alloc: Global,
     settings: &str,
@@ -28,7 +23,12 @@ pub fn plays_with(
     let mut source = SureSource::new(Vec::from_slice(alloc, input.as_bytes())?);
     let mut sink = MemorySink::new(alloc, Vec::new(alloc));
     let status = tool(alloc, &words, &mut source, &mut sink);
-    assert_eq!(rt; status, Status::Ok, "at {settings}{schedule}");
-    assert_eq!(rt; sink.bytes(), wanted.as_bytes(), "at {settings}{schedule}");
+    assert!(rt; matches!(status, Status::Ok), "at {input}");
+    assert_eq!(rt; sink.bytes(), wanted.as_bytes(), "at {input}");
     Ok(())
+}
+
+/// The same with a mark of two bytes.
+pub fn plays(rt: &impl Abort, alloc: Global, schedule: &str, wanted: &str) -> Result<(), Fail> {
+    plays_under(rt, alloc, MARK, schedule, wanted)
 }
