@@ -4,6 +4,10 @@
 #[cfg(test)]
 mod end_of_link;
 #[cfg(test)]
+mod faults;
+#[cfg(test)]
+mod fields;
+#[cfg(test)]
 mod framings;
 #[cfg(test)]
 mod one_step_at_a_time;

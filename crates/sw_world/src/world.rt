@@ -3,8 +3,9 @@ ghost use Rattle.std.specs.Prelude.{◌≡◌};
 use crate::state::State;
 use std::alloc::Global;
 use std::marker::Model;
-use sw_conn::Mark;
-use sw_data::{Octets, OutOfMemory};
+use sw_conn::FitFraming;
+use sw_data::OutOfMemory;
+use sw_frame::Framing;
 use sw_record::{Record, Step};
 
 /// The core, which contracts see as the state of all its actors and pipes.
@@ -30,24 +31,26 @@ impl Model for World {
 }
 
 impl World {
-    ghost use Rattle.std.specs.Prelude.{◌≡◌, ◌<◌, ◌≤◌, ℕ, length, slice_get, IfOk, OnOk, OnErr};
+    ghost use Rattle.std.specs.Prelude.{◌≡◌, ℕ, slice_get, IfOk, OnOk, OnErr};
     ghost use Rattle.sw_data.specs.declared.ended.Ended.{Ended};
     ghost use Rattle.sw_record.specs.declared.record.LinkRecord.{LinkRecord};
     ghost use Rattle.sw_record.specs.declared.record.LinkState.TheVariants.{Over};
     ghost use Rattle.sw_record.specs.Ends.{Drained};
     ghost use Rattle.sw_record.specs.Right.{Right};
+    ghost use Rattle.sw_frame.specs.Cut.{IsFit};
     ghost use Rattle.sw_laws.specs.Joint.{core_terms};
     ghost use Rattle.sw_world.specs.Steps.{start, next};
     ghost use Rattle.sw_world.specs.Account.{record_of, at_end_of};
     ghost use Rattle.sw_world.specs.Stays.{StaysState};
 
-    /// The core before its first step. Packets end at the mark, which has 1 to 8 bytes.
-    pub fn make(alloc: Global, mark: Octets) -> Result<World, OutOfMemory>
-        requires some { 0 < length mark }
-        requires few { length mark ≤ 8 }
-        ensures { IfOk result (λ w. w ≡ start mark) }
+    /// The core before its first step. Each link is cut into packets by this framing, which is one that can cut, as
+    /// `Framing::is_fit` tests.
+    pub fn make(alloc: Global, framing: &Framing) -> Result<World, OutOfMemory>
+        requires { IsFit framing.now }
+        ensures { IfOk result (λ w. w ≡ start framing.now) }
     {
-        let state = State::first(alloc, Mark::of(mark))?;
+        let framing = FitFraming::of(framing.copy()?);
+        let state = State::first(alloc, framing)?;
         Ok(World {
             state,
             alloc,
@@ -75,8 +78,8 @@ impl World {
     /// is on its way.
     pub fn account(&self) -> Result<Record, OutOfMemory>
         ensures exactly { IfOk result (λ r. r ≡ record_of self.now) }
-        ensures right { IfOk result (λ r. Right (core_terms self.now.reactor.mark) r (at_end_of self.now)) }
-        ensures drained { IfOk result (λ r. (at : ℕ) (l : LinkRecord) (e : Ended) → slice_get r.links at ≡ Some l → l.state ≡ Over e → Drained (core_terms self.now.reactor.mark) r) }
+        ensures right { IfOk result (λ r. Right (core_terms self.now.reactor.framing) r (at_end_of self.now)) }
+        ensures drained { IfOk result (λ r. (at : ℕ) (l : LinkRecord) (e : Ended) → slice_get r.links at ≡ Some l → l.state ≡ Over e → Drained (core_terms self.now.reactor.framing) r) }
     {
         if self.lost {
             return Err(OutOfMemory);
