@@ -96,6 +96,14 @@ names_has texts ps k name added names text is =
     let has : list_any (tied k.items) texts ≡ has_name ps name = tied_same k.items texts ∙ names k.items ∙ ap (has_name ps) text in
     sym (not_not (has_name ps name)) ∙ ap not (sym (is ∙ ap not has))
 
-pub no_names : (texts : List (Vec ℕ)) → texts ≡ [] → AreNames texts []
+pub no_names : (texts : List (Vec ℕ)) (ps : List Pair) → texts ≡ [] → ps ≡ [] → AreNames texts ps
 unfolding given
-no_names texts e name = ap (list_any (same name)) e
+no_names texts ps e none name = ap (list_any (same name)) e ∙ sym (ap (λ (xs : List Pair). has_name xs name) none)
+
+-- ---- one pair more
+
+pub taken : (ps : List Pair) (name : List ℕ) (v : SetValue) → has_name ps name ≡ true → with_pair ps name v ≡ None
+taken ps name v e = rw e refl
+
+pub new_pair : (ps more : List Pair) (name : List ℕ) (v : SetValue) → has_name ps name ≡ false → more ≡ ps ++ record { name = name; value = v } ∷ [] → with_pair ps name v ≡ Some more
+new_pair ps more name v e is = rw e (ap Some (sym is))

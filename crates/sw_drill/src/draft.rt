@@ -217,7 +217,12 @@ impl Draft {
     }
 
     #[tactic(auto, unfolding(crate::specs::Draft::schedule_read))]
-    fn read_schedule(&mut self, alloc: Global, word: &[u8], rest: &[u8]) -> Result<bool, OutOfMemory>
+    fn read_schedule(
+        &mut self,
+        alloc: Global,
+        word: &[u8],
+        rest: &[u8],
+    ) -> Result<bool, OutOfMemory>
         ensures { IfOk result (λ ok. schedule_read self.old word.now rest.now ≡ (if ok then Some self.new else None)) }
     {
         let Some(line) = named(alloc, self.peer, word, rest)? else {

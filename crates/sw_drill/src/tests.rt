@@ -31,7 +31,10 @@ fn heads(rt: HostRuntime) -> Result<(), Fail> {
         ("", Ok(0)),
         ("run 1", Ok(0)),
         ("set zz 1", Ok(1)),
-        ("set open_eof_split true\nset package_eof x0d0a\nset a_b =c\nrun 1", Ok(3)),
+        (
+            "set open_eof_split true\nset package_eof x0d0a\nset a_b =c\nrun 1",
+            Ok(3),
+        ),
         ("set a 18446744073709551615", Ok(1)),
         ("set a 18446744073709551616", Err(1)),
         ("set a -1", Err(1)),

@@ -103,7 +103,10 @@ fn lines_out_of_the_grammar(rt: HostRuntime) -> Result<(), Fail> {
     ];
     for (input, line) in inputs {
         let (status, text) = drill(rt.alloc(), input)?;
-        assert!(rt; matches!(status, Status::BadLine(n) if n == line), "at {input}");
+        assert!(rt;
+            matches!(status, Status::BadLine(n) if n == line),
+            "at {input}"
+        );
         let want = format!(in rt.alloc(); "fault line {line}\n")?;
         assert_eq!(rt; text.as_slice(), want.as_bytes(), "at {input}");
     }
