@@ -93,7 +93,7 @@ fn answer(alloc: Global, input: &[u8]) -> Result<Result<String, Refusal>, OutOfM
     }
 }
 
-fn outcome(alloc: Global, input: &[u8]) -> Outcome
+fn comes_of(alloc: Global, input: &[u8]) -> Outcome
     ensures { Answers input.now result }
 {
     match answer(alloc, input) {
@@ -109,7 +109,7 @@ fn read_and_run<S: Source>(alloc: Global, source: &mut S) -> Outcome
     ensures { Comes (record { left = S.left source.old; left_new = S.left source.new; faults = S.faults source.old; faults_new = S.faults source.new; ended = S.ended source.new }) result }
 {
     match read_whole(alloc, source) {
-        Ok(bytes) => outcome(alloc, &bytes),
+        Ok(bytes) => comes_of(alloc, &bytes),
         Err(fault) => match fault {
             InputFault::Long => Outcome::Long,
             InputFault::Failed => Outcome::Fault,
