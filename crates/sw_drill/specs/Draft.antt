@@ -1,4 +1,4 @@
-use Rattle.std.specs.Prelude.{ℕ, ◌+◌, List, [], ◌∷◌, ◌++◌, codes, Option, Some, None, Result, Ok, Err, if◌then◌else◌}
+use Rattle.std.specs.Prelude.{ℕ, ◌+◌, List, [], ◌∷◌, ◌++◌, codes, Bool, true, false, Option, Some, None, Result, Ok, Err, if◌then◌else◌}
 use Rattle.std.specs.Str.{bytes_eq}
 use Rattle.sw_text.specs.Then.{◌>>=◌}
 use Rattle.sw_text.specs.Numbers.{number_within}
@@ -106,10 +106,14 @@ set_read d text = do
   pairs ← with_pair d.pairs p.0 value
   Some (record d { pairs = pairs })
 
+-- no line of the schedule came yet
+abbrev pub is_in_front : List Line → Bool
+is_in_front [] = true
+is_in_front (l ∷ ls) = false
+
 -- such a line stands in front of all lines of the schedule
-abbrev pub set_at : Draft → List Line → List ℕ → Option Draft
-set_at d [] text = set_read d text
-set_at d (l ∷ ls) text = None
+abbrev pub set_at : Draft → List ℕ → Option Draft
+set_at d text = if is_in_front d.lines then set_read d text else None
 
 -- each other line belongs to the schedule
 unfoldable pub schedule_read : Draft → List ℕ → List ℕ → Option Draft
@@ -118,7 +122,7 @@ schedule_read d word text = do
   Some (with_line d l)
 
 abbrev pub worded : Draft → List ℕ × List ℕ → Option Draft
-worded d p = if bytes_eq p.0 (codes "set") then set_at d d.lines p.1 else schedule_read d p.0 p.1
+worded d p = if bytes_eq p.0 (codes "set") then set_at d p.1 else schedule_read d p.0 p.1
 
 -- the draft with one line more, if it is in the grammar there
 unfoldable pub line_read : Draft → List ℕ → Option Draft

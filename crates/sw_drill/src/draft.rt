@@ -2,7 +2,7 @@
 
 ghost use Rattle.std.specs.Prelude.{◌≡◌, ℕ, List, Option, Some, None, Bool, true, false, IfOk, if◌then◌else◌};
 ghost use Rattle.sw_text.specs.Numbers.{number_within};
-ghost use Rattle.sw_drill.specs.Draft.{opened, open_of, sent, data_of, closed, end_of, turn_of, turns_of, run_of, named, after_step, after_line, set_read, set_at, schedule_read, worded, line_read, fresh};
+ghost use Rattle.sw_drill.specs.Draft.{opened, open_of, sent, data_of, closed, end_of, turn_of, turns_of, run_of, named, after_step, after_line, set_read, is_in_front, set_at, schedule_read, worded, line_read, fresh};
 
 use crate::fields::{actor, is_setting_name, set_value};
 use crate::pairs::Pairs;
@@ -196,12 +196,23 @@ impl Draft {
         self.pairs.add(alloc, name, value)
     }
 
-    fn read_set_in_front(&mut self, alloc: Global, text: &[u8]) -> Result<bool, OutOfMemory>
-        ensures { IfOk result (λ ok. set_at self.old self.old.lines text.now ≡ (if ok then Some self.new else None)) }
+    /// Whether no line of the schedule came yet.
+    fn is_in_front(&self) -> bool
+        ensures { result ≡ is_in_front self.now.lines }
     {
         match self.lines.as_slice() {
-            [] => self.read_set(alloc, text),
-            [_, ..] => Ok(false),
+            [] => true,
+            [_, ..] => false,
+        }
+    }
+
+    fn read_set_in_front(&mut self, alloc: Global, text: &[u8]) -> Result<bool, OutOfMemory>
+        ensures { IfOk result (λ ok. set_at self.old text.now ≡ (if ok then Some self.new else None)) }
+    {
+        if self.is_in_front() {
+            self.read_set(alloc, text)
+        } else {
+            Ok(false)
         }
     }
 

@@ -1,6 +1,8 @@
 use Rattle.std.proofs.Common.{◌≡◌, ℕ, Bool, true, false, cond, List, [], ◌∷◌, Option, Some, None, refl, sym, ap, ◌∙◌, subst, true≢false, inl, inr, ◌⊎◌}
 use Rattle.std.specs.List.{AllByRecursion}
-use Rattle.std.specs.Ordering.{Ordering, Less, Equal, Greater, ordering_reverse, nat_cmp, is_lt}
+use Rattle.std.specs.declared.cmp.Ordering.{Ordering}
+use Rattle.std.specs.declared.cmp.Ordering.TheVariants.{Less, Equal, Greater}
+use Rattle.std.specs.Ordering.{ordering_reverse, nat_cmp, is_lt}
 use Rattle.std.specs.Cmp.{IsTotalOrder}
 use Rattle.std.specs.Cmp.Lexicographic.{slice_cmp, nat_list_cmp_total}
 use Rattle.sw_settings.specs.declared.pair.Pair.{Pair}
@@ -62,14 +64,14 @@ from_earlier check first p ps answer true bad low f = record {
   is = f.is;
   has = inr (elim f.has [ inl same ↦ inl (bad, sym same) | inr more ↦ inr more ]);
   before_first = behind_by first p.name f.key (is_before first f.key) refl low f.before_first;
-  before_all = (λ _. f.before_first, f.before_all)
+  before_all = (λ _. f.before_first, f.before_all);
 }
 from_earlier check first p ps answer false bad low f = record {
   key = f.key;
   is = f.is;
   has = elim f.has [ inl same ↦ inl same | inr more ↦ inr (inr more) ];
   before_first = f.before_first;
-  before_all = (λ _. after_trans p.name first f.key low f.before_first, f.before_all)
+  before_all = (λ _. after_trans p.name first f.key low f.before_first, f.before_all);
 }
 
 from_passing : (check : Check) (first : List ℕ) (p : Pair) (ps : List Pair) (answer : Option (List ℕ)) → fails check p ≡ false → Found check first ps answer → Found check first (p ∷ ps) answer
@@ -78,7 +80,7 @@ from_passing check first p ps answer good f = record {
   is = f.is;
   has = elim f.has [ inl same ↦ inl same | inr more ↦ inr (inr more) ];
   before_first = f.before_first;
-  before_all = (λ bad. absurd (true≢false (sym bad ∙ good)), f.before_all)
+  before_all = (λ bad. absurd (true≢false (sym bad ∙ good)), f.before_all);
 }
 
 found_step : (check : Check) (first : List ℕ) (p : Pair) (ps : List Pair) (t : Bool) → fails check p ≡ t → ((g : List ℕ) → Found check g ps (first_behind check (Some g) ps)) → Found check first (p ∷ ps) (first_behind check (cond t (Some (earlier first p.name)) (Some first)) ps)

@@ -21,7 +21,7 @@ length_rule ps = record {
   letter = unwrap_or (length_type ps) C;
   length_offset = number_of (codes "package_length_offset") ps;
   body_offset = number_of (codes "package_body_offset") ps;
-  max = number_of (codes "package_max_length") ps
+  max = number_of (codes "package_max_length") ps;
 }
 
 -- the mark that ends packets; where it is asked for, it is set

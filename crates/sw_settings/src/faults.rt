@@ -115,9 +115,7 @@ fn missing_fault(alloc: Global, pairs: &[Pair]) -> Result<Option<SettingsFault>,
         return Ok(Some(SettingsFault::Missing(key(alloc, "package_eof")?)));
     }
     if truth(pairs, "open_length_check") && text(pairs, "package_length_type").is_none() {
-        return Ok(Some(SettingsFault::Missing(
-            key(alloc, "package_length_type")?,
-        )));
+        return Ok(Some(SettingsFault::Missing(key(alloc, "package_length_type")?)));
     }
     Ok(None)
 }

@@ -16,6 +16,5 @@ pub use pair::{Pair, SetValue};
 pub use settings::{Settings, from_pairs};
 pub use values::given;
 
-
 #[cfg(test)]
 mod tests;

@@ -66,15 +66,39 @@ fn each_key_has_its_range(rt: HostRuntime) -> Result<(), Fail> {
     ];
     for (key, least, most) in ranges {
         let refused = format!(in rt.alloc(); "range {key} {least} {most}")?;
-        assert_eq!(rt; outcome(rt.alloc(), &[(key, N(least))])?.as_str(), "ok", "{key}");
-        assert_eq!(rt; outcome(rt.alloc(), &[(key, N(most))])?.as_str(), "ok", "{key}");
-        assert_eq!(rt; outcome(rt.alloc(), &[(key, N(least - 1))])?, refused, "{key}");
-        assert_eq!(rt; outcome(rt.alloc(), &[(key, N(most + 1))])?, refused, "{key}");
+        assert_eq!(rt;
+            outcome(rt.alloc(), &[(key, N(least))])?.as_str(),
+            "ok",
+            "{key}"
+        );
+        assert_eq!(rt;
+            outcome(rt.alloc(), &[(key, N(most))])?.as_str(),
+            "ok",
+            "{key}"
+        );
+        assert_eq!(rt;
+            outcome(rt.alloc(), &[(key, N(least - 1))])?,
+            refused,
+            "{key}"
+        );
+        assert_eq!(rt;
+            outcome(rt.alloc(), &[(key, N(most + 1))])?,
+            refused,
+            "{key}"
+        );
     }
-    let marks = [("", false), ("1", true), ("12345678", true), ("123456789", false)];
+    let marks = [
+        ("", false),
+        ("1", true),
+        ("12345678", true),
+        ("123456789", false),
+    ];
     for (mark, fits) in marks {
         let want = if fits { "ok" } else { "range package_eof 1 8" };
-        assert_eq!(rt; outcome(rt.alloc(), &[("package_eof", S(mark))])?.as_str(), want);
+        assert_eq!(rt;
+            outcome(rt.alloc(), &[("package_eof", S(mark))])?.as_str(),
+            want
+        );
     }
     Ok(())
 }
@@ -88,7 +112,10 @@ fn each_key_has_its_kind(rt: HostRuntime) -> Result<(), Fail> {
         ("package_eof", [N(13), T(false)]),
         ("package_length_offset", [T(false), S("")]),
         ("package_length_type", [N(4), S("Nn")]),
-        ("package_max_length", [N(18_446_744_073_709_551_616), N(-9_223_372_036_854_775_809)]),
+        (
+            "package_max_length",
+            [N(18_446_744_073_709_551_616), N(-9_223_372_036_854_775_809)],
+        ),
     ];
     for (key, puts) in others {
         let want = format!(in rt.alloc(); "type {key}")?;
@@ -97,7 +124,10 @@ fn each_key_has_its_kind(rt: HostRuntime) -> Result<(), Fail> {
         }
     }
     for letter in ["C", "n", "N", "v", "V"] {
-        assert_eq!(rt; outcome(rt.alloc(), &[("package_length_type", S(letter))])?.as_str(), "ok");
+        assert_eq!(rt;
+            outcome(rt.alloc(), &[("package_length_type", S(letter))])?.as_str(),
+            "ok"
+        );
     }
     for number in [18_446_744_073_709_551_615, -9_223_372_036_854_775_808] {
         let got = outcome(rt.alloc(), &[("package_max_length", N(number))])?;
@@ -118,12 +148,21 @@ fn the_first_refusal_counts(rt: HostRuntime) -> Result<(), Fail> {
         (&[("zz", N(1))], "unknown zz"),
         (&[("zz", N(1)), ("", N(1)), ("za", N(1))], "unknown "),
         (&[far, ("package_eof", N(1)), ("zz", N(1))], "unknown zz"),
-        (&[far, ("package_length_type", S("x")), ("package_eof", N(1))], "type package_eof"),
-        (&[split, far, ("package_body_offset", N(-1))], "range package_body_offset 0 65535"),
+        (
+            &[far, ("package_length_type", S("x")), ("package_eof", N(1))],
+            "type package_eof",
+        ),
+        (
+            &[split, far, ("package_body_offset", N(-1))],
+            "range package_body_offset 0 65535",
+        ),
         (&[split], "missing package_eof"),
         (&[check, split], "missing package_eof"),
         (&[check, split, mark], "missing package_length_type"),
-        (&[letter, check, split, mark], "conflict open_eof_split open_length_check"),
+        (
+            &[letter, check, split, mark],
+            "conflict open_eof_split open_length_check",
+        ),
         (&[letter, check, mark, ("open_eof_split", T(false))], "ok"),
         (&[split, mark, ("open_length_check", T(false))], "ok"),
     ];
