@@ -1,6 +1,5 @@
 -- What causes and refusals rest on.
 use Rattle.std.specs.Prelude.{◌≡◌, ◌⊎◌, ℕ, ◌%◌, true, Bool, List, [], ◌∷◌, ◌++◌, slice_get, Option, Some}
-use Rattle.sw_data.specs.declared.events.Event.{Event}
 use Rattle.sw_data.specs.declared.events.Event.TheVariants.{Connect, Closed}
 use Rattle.sw_data.specs.declared.events.Given.{Given}
 use Rattle.sw_data.specs.declared.events.Given.TheVariants.{Event as EventGiven, Answer as AnswerGiven}

@@ -1,11 +1,11 @@
 -- Sessions are drawn once, and nothing is missing of a link at its end.
-use Rattle.std.specs.Prelude.{◌≡◌, ◌⊎◌, ℕ, ◌+◌, ◌<◌, ◌≤◌, ◌^◌, ◌%◌, List, [], ◌∷◌, ◌++◌, length, take, slice_get, Option, Some, None}
+use Rattle.std.specs.Prelude.{◌≡◌, ◌⊎◌, ℕ, ◌+◌, ◌<◌, ◌≤◌, ◌^◌, ◌%◌, List, [], ◌∷◌, length, take, slice_get, Option, Some, None}
 use Rattle.std.specs.List.{concat}
 use Rattle.sw_data.specs.declared.ended.Ended.{Ended}
 use Rattle.sw_data.specs.declared.ended.Cause.{Cause}
 use Rattle.sw_data.specs.declared.ended.Cause.TheVariants.{PeerEnd, TooLong, BadLength}
 use Rattle.sw_data.specs.declared.events.Event.{Event}
-use Rattle.sw_data.specs.declared.events.Event.TheVariants.{Connect, Packet, Closed}
+use Rattle.sw_data.specs.declared.events.Event.TheVariants.{Connect, Closed}
 use Rattle.sw_data.specs.declared.events.Given.{Given}
 use Rattle.sw_data.specs.declared.events.Act.{Act}
 use Rattle.sw_record.specs.declared.record.LinkRecord.{LinkRecord}
@@ -13,8 +13,8 @@ use Rattle.sw_record.specs.declared.record.LinkState.{LinkState}
 use Rattle.sw_record.specs.declared.record.LinkState.TheVariants.{Waiting, Live, Over}
 use Rattle.sw_record.specs.declared.record.Record.{Record}
 use Rattle.sw_record.specs.Logs.{told_of, Handled}
-use Rattle.sw_record.specs.Bytes.{Own, Owned, IsPart, StandsLate, EndsDone}
-use Rattle.sw_record.specs.Terms.{Terms, HasLink, IsPrefix, packets_on, target, session_of}
+use Rattle.sw_record.specs.Bytes.{Own, Owned, StandsLate, EndsDone}
+use Rattle.sw_record.specs.Terms.{Terms, HasLink, packets_on, target, session_of}
 
 -- what is said of a link that was accepted
 abbrev pub accepted_in : LinkState → Option Ended

@@ -4,7 +4,7 @@ use Rattle.std.specs.Prelude.{ℕ, List, [], ◌∷◌, Some}
 use Rattle.sw_data.specs.declared.ended.Ended.{Ended}
 use Rattle.sw_data.specs.declared.ended.Cause.{Cause}
 use Rattle.sw_data.specs.declared.ended.Cause.TheVariants.{PeerEnd, TooLong, BadLength}
-use Rattle.sw_data.specs.declared.events.Event.TheVariants.{Connect, Packet, Closed}
+use Rattle.sw_data.specs.declared.events.Event.TheVariants.{Packet}
 use Rattle.sw_data.specs.declared.events.Act.{Act}
 use Rattle.sw_data.specs.declared.events.Act.TheVariants.{Send, Done}
 use Rattle.sw_data.specs.declared.events.Answer.TheVariants.{Sent}

@@ -16,7 +16,7 @@ use sw_world::World;
 fn make(alloc: Global, settings: &Settings) -> Result<World, OutOfMemory>
     ensures { IfOk result (λ w. w ≡ fresh settings.now) }
 {
-    World::make(alloc, settings.framing())
+    World::make(alloc, settings)
 }
 
 #[tactic(auto, unfolding(crate::specs::Run::stepped))]

@@ -1,5 +1,5 @@
 -- Wherever steps lead, the record is right.
-use Rattle.std.proofs.Common.{◌≡◌, ℕ, List, [], ◌∷◌, ◌++◌, refl, ap, ◌∙◌, subst, Some, slice_get}
+use Rattle.std.proofs.Common.{◌≡◌, ℕ, [], ◌∷◌, ◌++◌, refl, ap, ◌∙◌, subst, Some, slice_get}
 use Rattle.sw_data.specs.declared.ended.Ended.{Ended}
 use Rattle.sw_frame.specs.declared.framing.Framing.{Framing}
 use Rattle.sw_frame.specs.Cut.{IsFit}

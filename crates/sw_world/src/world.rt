@@ -5,8 +5,8 @@ use std::alloc::Global;
 use std::marker::Model;
 use sw_conn::FitFraming;
 use sw_data::OutOfMemory;
-use sw_frame::Framing;
 use sw_record::{Record, Step};
+use sw_settings::Settings;
 
 /// The core, which contracts see as the state of all its actors and pipes.
 #[derive(Drop)]
@@ -37,19 +37,17 @@ impl World {
     ghost use Rattle.sw_record.specs.declared.record.LinkState.TheVariants.{Over};
     ghost use Rattle.sw_record.specs.Ends.{Drained};
     ghost use Rattle.sw_record.specs.Right.{Right};
-    ghost use Rattle.sw_frame.specs.Cut.{IsFit};
     ghost use Rattle.sw_laws.specs.Joint.{core_terms};
+    ghost use Rattle.sw_settings.specs.Framings.{framing_of};
     ghost use Rattle.sw_world.specs.Steps.{start, next};
     ghost use Rattle.sw_world.specs.Account.{record_of, at_end_of};
     ghost use Rattle.sw_world.specs.Stays.{StaysState};
 
-    /// The core before its first step. Each link is cut into packets by this framing, which is one that can cut, as
-    /// `Framing::is_fit` tests.
-    pub fn make(alloc: Global, framing: &Framing) -> Result<World, OutOfMemory>
-        requires { IsFit framing.now }
-        ensures { IfOk result (λ w. w ≡ start framing.now) }
+    /// The core before its first step, by these settings: each link is cut into packets by their framing.
+    pub fn make(alloc: Global, settings: &Settings) -> Result<World, OutOfMemory>
+        ensures { IfOk result (λ w. w ≡ start (framing_of settings.now)) }
     {
-        let framing = FitFraming::of(framing.copy()?);
+        let framing = FitFraming::of(settings.framing().copy()?);
         let state = State::first(alloc, framing)?;
         Ok(World {
             state,

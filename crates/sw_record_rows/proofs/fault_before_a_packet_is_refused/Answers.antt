@@ -1,4 +1,4 @@
-use Rattle.std.proofs.Common.{◌≡◌, ℕ, [], ◌∷◌, length, refl, arith}
+use Rattle.std.proofs.Common.{◌≡◌, ℕ, length, refl, arith}
 use Rattle.sw_cut.specs.Cut.{parts_of}
 use Rattle.sw_frame_eof.specs.Mark.{first_in}
 use Rattle.sw_frame.specs.Cut.{cut}

@@ -1,5 +1,4 @@
-use Rattle.std.proofs.Common.{◌≡◌, Bool, false, [], ◌∷◌, refl, Option, Some, None}
-use Rattle.sw_cut.specs.declared.First.{First}
+use Rattle.std.proofs.Common.{◌≡◌, false, [], ◌∷◌, refl, Some, None}
 use Rattle.sw_cut.specs.declared.First.TheVariants as first
 use Rattle.sw_cut.specs.Cut.{parts_of}
 use Rattle.sw_frame_eof.specs.Mark.{first_in}

@@ -1,4 +1,4 @@
-use Rattle.std.proofs.Common.{◌≡◌, ℕ, List, [], ◌∷◌, refl, arith}
+use Rattle.std.proofs.Common.{◌≡◌, ℕ, refl, arith}
 use Rattle.sw_frame.specs.Cut.{cut}
 use Rattle.sw_record.specs.Bytes.{Own}
 use Rattle.sw_record.specs.Ends.{Whole}

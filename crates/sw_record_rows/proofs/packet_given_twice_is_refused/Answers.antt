@@ -1,4 +1,4 @@
-use Rattle.std.proofs.Common.{◌≡◌, ℕ, List, [], ◌∷◌, ◌++◌, refl, ap, arith}
+use Rattle.std.proofs.Common.{◌≡◌, ℕ, List, [], ◌∷◌, refl, ap, arith}
 use Rattle.sw_frame.specs.Cut.{cut}
 use Rattle.sw_record.specs.Order.{InOrder}
 use Rattle.sw_record_rows.specs.Rows.{two_packets, given_twice, live, given_packet}
