@@ -1,9 +1,10 @@
 -- One connection's moves, as a table.
 use Rattle.std.specs.Prelude.{ℕ, ◌+◌, ◌-◌, ◌==◌, ◌^◌, Bool, true, false, nat_lt, if◌then◌else◌, List, [], ◌∷◌, ◌++◌, Option, Some, None}
 use Rattle.sw_data.specs.declared.ended.Cause.{Cause}
-use Rattle.sw_data.specs.declared.ended.Cause.TheVariants.{PeerEnd}
+use Rattle.sw_data.specs.declared.ended.Cause.TheVariants.{PeerEnd, TooLong, BadLength}
 use Rattle.sw_data.specs.declared.events.Event.{Event}
 use Rattle.sw_data.specs.declared.events.Event.TheVariants.{Connect, Packet, Closed}
+use Rattle.sw_frame.specs.declared.framing.Framing.{Framing}
 use Rattle.sw_frame.specs.declared.next.Next.{Next}
 use Rattle.sw_frame.specs.declared.next.Next.TheVariants as next
 use Rattle.sw_frame.specs.Cutting.{next_of}
@@ -17,16 +18,15 @@ use Rattle.sw_conn.specs.declared.conn.Asked.{Asked}
 use Rattle.sw_conn.specs.declared.conn.Asked.TheVariants.{Nothing as AskedNothing, Connect as AskedConnect, Packet as AskedPacket, Closed as AskedClosed}
 use Rattle.sw_conn.specs.declared.conn.Choice.{Choice}
 use Rattle.sw_conn.specs.declared.conn.Choice.TheVariants.{Push, Moved, Still, End}
-use Rattle.sw_conn.specs.Framed.{framing_of}
 
 -- a connection that its reactor just took
-abbrev pub fresh : List ℕ → Link → ℕ → ℕ → Conn
-fresh mark link ip session =
+abbrev pub fresh : Framing → Link → ℕ → ℕ → Conn
+fresh framing link ip session =
     record {
       link = link;
       ip = ip;
       session = session;
-      cutter = record { framing = framing_of mark; pieces = []; given = 0 };
+      cutter = record { framing = framing; pieces = []; given = 0 };
       connected = false;
       dispatched = 0;
       cause = None;
@@ -95,12 +95,17 @@ read_choice (Got p) = Moved
 read_choice NotYet = Still
 read_choice AtEnd = Moved
 
--- without a cause: the next packet is pushed with its number, and without one more is read
+-- the bytes behind the last packet are no packet: that is the cause, and nothing more is read
+abbrev pub failed : Conn → Cause → Chosen
+failed c cause = record { conn = record c { cause = Some cause }; choice = Moved; reads = false }
+
+-- without a cause: the next packet is pushed with its number, a fault behind the last one is the cause, and without
+-- either more is read
 abbrev pub cut_as : Conn → LinkRead → Next → Chosen
 cut_as c read (next.Packet p) = record { conn = record c { asked = AskedPacket; cutter = record c.cutter { given = c.cutter.given + 1 } }; choice = Push (Packet c.session c.dispatched p); reads = false }
 cut_as c read next.More = record { conn = read_as c read; choice = read_choice read; reads = true }
-cut_as c read (next.TooLong n) = record { conn = c; choice = Still; reads = false }
-cut_as c read (next.BadLength n) = record { conn = c; choice = Still; reads = false }
+cut_as c read (next.TooLong n) = failed c (TooLong n)
+cut_as c read (next.BadLength n) = failed c (BadLength n)
 cut_as c read next.OutOfMemory = record { conn = c; choice = Still; reads = false }
 
 abbrev pub choose_by : Conn → LinkRead → Option Cause → Chosen

@@ -1,3 +1,2 @@
-pub mod Framed
 pub mod Conn
 pub mod Stays

@@ -58,8 +58,7 @@ pub struct Conn {
 
 impl Conn {
     ghost use Rattle.std.specs.Prelude.{◌≡◌, ◌⊎◌, IfOk, OnOk, OnErr, [], None, false};
-    ghost use Rattle.sw_conn.specs.Framed.{framing_of};
-    ghost use Rattle.sw_conn.specs.Conn.{fresh, noted, returned, flushed, has_unsent, with_send, with_bye, kind_of, choose, cut_as, read_as, read_choice, finish, serve, script_by, script_used};
+    ghost use Rattle.sw_conn.specs.Conn.{fresh, noted, returned, flushed, has_unsent, with_send, with_bye, kind_of, choose, cut_as, read_as, read_choice, finish, serve, script_by, script_used, failed};
     ghost use Rattle.sw_conn.specs.Stays.{ShowsSame, Stays};
     ghost use Rattle.sw_link.specs.Script.{script_read, script_after};
     ghost use Rattle.sw_frame.specs.Cutting.{next_of};
@@ -191,10 +190,19 @@ impl Conn {
                 Ok(Choice::Push(Event::Packet(self.session, self.dispatched, packet)))
             }
             Next::More => self.read(alloc, script),
-            Next::TooLong(_) => Ok(Choice::Still),
-            Next::BadLength(_) => Ok(Choice::Still),
+            Next::TooLong(length) => Ok(self.fail(Cause::TooLong(length))),
+            Next::BadLength(length) => Ok(self.fail(Cause::BadLength(length))),
             Next::OutOfMemory => Err(OutOfMemory),
         }
+    }
+
+    /// The bytes behind the last packet are no packet, so nothing more is read.
+    fn fail(&mut self, cause: Cause) -> Choice
+        ensures choice { result ≡ (failed self.old cause).choice }
+        ensures conn { self.new ≡ (failed self.old cause).conn }
+    {
+        self.cause = Some(cause);
+        Choice::Moved
     }
 
     fn read(&mut self, alloc: Global, script: &mut Script) -> Result<Choice, OutOfMemory>

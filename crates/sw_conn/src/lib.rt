@@ -2,7 +2,7 @@
 #![tactic(auto)]
 
 mod conn;
-mod mark;
+mod framed;
 
 pub use conn::{Asked, Choice, Conn, READ_SIZE};
-pub use mark::Mark;
+pub use framed::FitFraming;

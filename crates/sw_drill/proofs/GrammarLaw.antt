@@ -1,10 +1,8 @@
-use Rattle.std.proofs.Common.{◌≡◌, ℕ, ◌+◌, List, [], ◌∷◌, length, Option, Some, None, Result, Ok, Err, refl, ap, inl, inr, arith}
+use Rattle.std.proofs.Common.{◌≡◌, ℕ, ◌+◌, List, [], ◌∷◌, length, Option, Some, None, Result, Ok, Err, refl, ap, arith}
 use Rattle.sw_text.specs.Parts.{lines_of}
-use Rattle.sw_drill.specs.Draft.{line_read, lines_read, numbered, fresh, finished, finished_at, drill_of}
+use Rattle.sw_drill.specs.Draft.{line_read, lines_read, numbered, fresh, finished, drill_of}
 use Rattle.sw_drill.specs.Grammar.{Leads, IsFirstOut, IsRead}
 use Rattle.sw_drill.specs.declared.draft.Draft.{Draft}
-use Rattle.sw_drill.specs.declared.draft.Stage.{Stage}
-use Rattle.sw_drill.specs.declared.draft.Stage.TheVariants.{First, Second, Schedule}
 
 abbrev Told : ℕ → Draft → List (List ℕ) → Result Draft ℕ → Type 0
 Told n d ls (Ok e) = Leads d ls e
@@ -26,14 +24,9 @@ unfolding lines_read
 told [] n d = refl
 told (l ∷ ls) n d = one n d l ls (line_read d l) refl (λ m. told ls (n + 1) m)
 
-ended : (text : List ℕ) (d : Draft) (s : Stage) → d.stage ≡ s → Leads fresh (lines_of text) d → IsRead text (finished_at d s)
-ended text d First is t = inr (d, t, inl (is, refl))
-ended text d Second is t = inr (d, t, inr (is, refl))
-ended text d Schedule is t = (d, t, is, refl)
-
 read_so : (text : List ℕ) (r : Result Draft ℕ) → Told 1 fresh (lines_of text) r → IsRead text (finished r)
-read_so text (Ok d) t = ended text d d.stage refl t
-read_so text (Err n) t = inl t
+read_so text (Ok d) t = (d, t, refl)
+read_so text (Err n) t = t
 
 pub is_read : (text : List ℕ) → IsRead text (drill_of text)
 is_read text = read_so text (lines_read 1 (Ok fresh) (lines_of text)) (told (lines_of text) 1 fresh)

@@ -1,4 +1,4 @@
 pub mod LineSteps
 pub mod GrammarLaw
 pub mod EachLaw
-pub mod MarkLaw
+pub mod NameLaw

@@ -1,4 +1,4 @@
-use Rattle.std.specs.Prelude.{ℕ, ◌+◌, List, [], ◌∷◌, ◌++◌, codes, ◌&&◌, Option, Some, None, Result, Ok, Err, if◌then◌else◌}
+use Rattle.std.specs.Prelude.{ℕ, ◌+◌, List, [], ◌∷◌, ◌++◌, codes, Bool, true, false, Option, Some, None, Result, Ok, Err, if◌then◌else◌}
 use Rattle.std.specs.Str.{bytes_eq}
 use Rattle.sw_text.specs.Then.{◌>>=◌}
 use Rattle.sw_text.specs.Numbers.{number_within}
@@ -7,15 +7,14 @@ use Rattle.sw_text.specs.Hex.{bytes_of}
 use Rattle.sw_text.specs.Addresses.{ip_of}
 use Rattle.sw_record.specs.declared.step.Step.{Step}
 use Rattle.sw_record.specs.declared.step.Step.TheVariants.{Arrive, Piece, End, Turn}
-use Rattle.sw_drill.specs.Fields.{actor_of, mark_of}
+use Rattle.sw_drill.specs.Fields.{actor_of, is_setting_name, value_of}
+use Rattle.sw_drill.specs.Pairs.{with_pair}
 use Rattle.sw_drill.specs.declared.schedule.Line.{Line}
 use Rattle.sw_drill.specs.declared.schedule.Line.TheVariants as lines
 use Rattle.sw_drill.specs.declared.schedule.Drill.{Drill}
 use Rattle.sw_drill.specs.declared.draft.Draft.{Draft}
 use Rattle.sw_drill.specs.declared.draft.Peer.{Peer}
 use Rattle.sw_drill.specs.declared.draft.Peer.TheVariants.{Absent, Sending, Ended}
-use Rattle.sw_drill.specs.declared.draft.Stage.{Stage}
-use Rattle.sw_drill.specs.declared.draft.Stage.TheVariants.{First, Second, Schedule}
 
 -- ---- schedule lines
 
@@ -73,19 +72,14 @@ run_of text = do
   n ← number_within 1 100000 text
   Some (lines.Rounds n)
 
--- the line that begins with this word
-abbrev pub named : Peer → List ℕ × List ℕ → Option Line
-named peer p = if bytes_eq p.0 (codes "open") then open_of peer p.1
-    else if bytes_eq p.0 (codes "data") then data_of peer p.1
-    else if bytes_eq p.0 (codes "end") then end_of peer p.1
-    else if bytes_eq p.0 (codes "turn") then turn_of p.1
-    else if bytes_eq p.0 (codes "run") then run_of p.1
+-- the line with this first word, and this text behind it
+abbrev pub named : Peer → List ℕ → List ℕ → Option Line
+named peer word text = if bytes_eq word (codes "open") then open_of peer text
+    else if bytes_eq word (codes "data") then data_of peer text
+    else if bytes_eq word (codes "end") then end_of peer text
+    else if bytes_eq word (codes "turn") then turn_of text
+    else if bytes_eq word (codes "run") then run_of text
     else None
-
-unfoldable pub line_of : Peer → List ℕ → Option Line
-line_of peer text = do
-  p ← part_at 32 text
-  named peer p
 
 -- ---- a text, line by line
 
@@ -104,32 +98,37 @@ after_line (lines.Rounds n) peer = peer
 abbrev pub with_line : Draft → Line → Draft
 with_line d l = record d { peer = after_line l d.peer; lines = d.lines ++ l ∷ [] }
 
--- the first line says that packets end at a mark
-unfoldable pub first_read : Draft → List ℕ → Option Draft
-first_read d line = if bytes_eq line (codes "set open_eof_split true") then Some (record d { stage = Second }) else None
+-- set NAME VALUE, for a name that wasn't set yet
+unfoldable pub set_read : Draft → List ℕ → Option Draft
+set_read d text = do
+  p ← part_at 32 text
+  value ← (if is_setting_name p.0 then value_of p.1 else None)
+  pairs ← with_pair d.pairs p.0 value
+  Some (record d { pairs = pairs })
 
--- the second line says which mark
-unfoldable pub second_read : Draft → List ℕ → Option Draft
-second_read d line = do
-  set ← part_at 32 line
-  key ← part_at 32 set.1
-  mark ← mark_of key.1
-  if bytes_eq set.0 (codes "set") && bytes_eq key.0 (codes "package_eof") then Some (record d { stage = Schedule; mark = mark }) else None
+-- no line of the schedule came yet
+abbrev pub is_in_front : List Line → Bool
+is_in_front [] = true
+is_in_front (l ∷ ls) = false
+
+-- such a line stands in front of all lines of the schedule
+abbrev pub set_at : Draft → List ℕ → Option Draft
+set_at d text = if is_in_front d.lines then set_read d text else None
 
 -- each other line belongs to the schedule
-unfoldable pub schedule_read : Draft → List ℕ → Option Draft
-schedule_read d line = do
-  l ← line_of d.peer line
+unfoldable pub schedule_read : Draft → List ℕ → List ℕ → Option Draft
+schedule_read d word text = do
+  l ← named d.peer word text
   Some (with_line d l)
 
-abbrev pub line_at : Draft → Stage → List ℕ → Option Draft
-line_at d First line = first_read d line
-line_at d Second line = second_read d line
-line_at d Schedule line = schedule_read d line
+abbrev pub worded : Draft → List ℕ × List ℕ → Option Draft
+worded d p = if bytes_eq p.0 (codes "set") then set_at d p.1 else schedule_read d p.0 p.1
 
 -- the draft with one line more, if it is in the grammar there
-abbrev pub line_read : Draft → List ℕ → Option Draft
-line_read d line = line_at d d.stage line
+unfoldable pub line_read : Draft → List ℕ → Option Draft
+line_read d line = do
+  p ← part_at 32 line
+  worded d p
 
 abbrev pub numbered : ℕ → Option Draft → Result Draft ℕ
 numbered n None = Err n
@@ -142,17 +141,11 @@ lines_read n (Ok d) [] = Ok d
 lines_read n (Ok d) (l ∷ ls) = lines_read (n + 1) (numbered n (line_read d l)) ls
 
 abbrev pub fresh : Draft
-fresh = record { stage = First; mark = []; peer = Absent; lines = [] }
-
--- a text without its first or second line has that line out of the grammar
-abbrev pub finished_at : Draft → Stage → Result Drill ℕ
-finished_at d First = Err 1
-finished_at d Second = Err 2
-finished_at d Schedule = Ok (record { mark = d.mark; lines = d.lines })
+fresh = record { pairs = []; peer = Absent; lines = [] }
 
 abbrev pub finished : Result Draft ℕ → Result Drill ℕ
 finished (Err n) = Err n
-finished (Ok d) = finished_at d d.stage
+finished (Ok d) = Ok (record { pairs = d.pairs; lines = d.lines })
 
 -- what a text says, or the number of its first line that isn't in the grammar
 abbrev pub drill_of : List ℕ → Result Drill ℕ

@@ -1,8 +1,7 @@
-use Rattle.std.specs.Prelude.{◌≡◌, ℕ, ◌+◌, List, [], ◌∷◌, ◌++◌, length, Some, None, Result, Ok, Err, ◌⊎◌}
+use Rattle.std.specs.Prelude.{◌≡◌, ℕ, ◌+◌, List, [], ◌∷◌, ◌++◌, length, Some, None, Result, Ok, Err}
 use Rattle.sw_text.specs.Parts.{lines_of}
 use Rattle.sw_drill.specs.Draft.{line_read, fresh}
 use Rattle.sw_drill.specs.declared.draft.Draft.{Draft}
-use Rattle.sw_drill.specs.declared.draft.Stage.TheVariants.{First, Second, Schedule}
 use Rattle.sw_drill.specs.declared.schedule.Drill.{Drill}
 
 -- each of the lines is in the grammar where it stands, and they lead from one draft to another
@@ -14,12 +13,8 @@ Leads d (l ∷ ls) e = (m : Draft) × (line_read d l ≡ Some m) × Leads m ls e
 abbrev pub IsFirstOut : Draft → List (List ℕ) → List (List ℕ) → Type 0
 IsFirstOut d ls front = (e : Draft) × (l : List ℕ) × (rest : List (List ℕ)) × Leads d front e × (line_read e l ≡ None) × (ls ≡ front ++ l ∷ rest)
 
--- all lines are in the grammar, and the first or the second one is missing
-abbrev pub IsShort : List (List ℕ) → ℕ → Type 0
-IsShort ls n = (d : Draft) × Leads fresh ls d × (((d.stage ≡ First) × (n ≡ 1)) ⊎ ((d.stage ≡ Second) × (n ≡ 2)))
-
--- what a text is, by what reading it answers: a drill where each line is in the grammar and none is missing, and else the
--- number of the first line that is out of it or missing
+-- what a text is, by what reading it answers: a drill where each line is in the grammar, and else the number of the first line
+-- that is out of it
 abbrev pub IsRead : List ℕ → Result Drill ℕ → Type 0
-IsRead text (Ok x) = (d : Draft) × Leads fresh (lines_of text) d × (d.stage ≡ Schedule) × (x ≡ record { mark = d.mark; lines = d.lines })
-IsRead text (Err n) = ((front : List (List ℕ)) × IsFirstOut fresh (lines_of text) front × (n ≡ 1 + length front)) ⊎ IsShort (lines_of text) n
+IsRead text (Ok x) = (d : Draft) × Leads fresh (lines_of text) d × (x ≡ record { pairs = d.pairs; lines = d.lines })
+IsRead text (Err n) = (front : List (List ℕ)) × IsFirstOut fresh (lines_of text) front × (n ≡ 1 + length front)

@@ -1,3 +1,4 @@
+pub mod Pairs
 pub mod Fields
 pub mod Draft
 pub mod Grammar

@@ -4,7 +4,7 @@ use Rattle.std.specs.List.{flat_map}
 use Rattle.sw_text.specs.Hex.{bytes_text}
 use Rattle.sw_text.specs.Addresses.{ip_text}
 use Rattle.sw_data.specs.declared.ended.Cause.{Cause}
-use Rattle.sw_data.specs.declared.ended.Cause.TheVariants.{PeerEnd}
+use Rattle.sw_data.specs.declared.ended.Cause.TheVariants.{PeerEnd, TooLong, BadLength}
 use Rattle.sw_data.specs.declared.ended.Ended.{Ended}
 use Rattle.sw_data.specs.declared.events.Event.{Event}
 use Rattle.sw_data.specs.declared.events.Event.TheVariants.{Connect, Packet, Closed}
@@ -26,9 +26,11 @@ each_text text n (x ∷ xs) = text n x ++ each_text text (n + 1) xs
 
 -- ---- links
 
--- why a link ended, by the cause's name
+-- why a link ended, by the cause's name, with its number where it has one
 abbrev pub cause_text : Cause → List ℕ
 cause_text PeerEnd = codes "PeerEnd"
+cause_text (TooLong n) = codes "TooLong " ++ decimal n
+cause_text (BadLength n) = codes "BadLength " ++ decimal n
 
 -- a link's session and descriptor, with dashes where it got none
 abbrev pub place_text : Option ℕ → ℕ → List ℕ
@@ -46,8 +48,17 @@ known_text e = place_text e.session e.fd ++ codes " ip " ++ ip_text e.ip ++ coun
 abbrev pub label_text : List ℕ → ℕ → List ℕ
 label_text word at = word ++ decimal at
 
-abbrev pub link_line : ℕ → Ended → List ℕ → List ℕ
-link_line at e ending = label_text (codes "link ") at ++ codes " " ++ known_text e ++ ending ++ codes "\n"
+-- a link's first line up to how it ended
+abbrev pub start_text : ℕ → Ended → List ℕ
+start_text at e = label_text (codes "link ") at ++ codes " " ++ known_text e
+
+-- that line of a link that lives
+abbrev pub open_line : ℕ → Ended → List ℕ
+open_line at e = start_text at e ++ codes "open\n"
+
+-- that line of a link that ended
+abbrev pub over_line : ℕ → Ended → List ℕ
+over_line at e = start_text at e ++ cause_text e.cause ++ codes "\n"
 
 abbrev pub piece_text : List ℕ → List ℕ
 piece_text p = codes " " ++ bytes_text p
@@ -69,8 +80,8 @@ bytes_lines at l = in_line at l.pieces ++ out_line at l.written
 -- the lines of a link: one alone where it wasn't accepted
 abbrev pub state_text : ℕ → LinkRecord → LinkState → List ℕ
 state_text at l Waiting = label_text (codes "link ") at ++ codes " waiting\n"
-state_text at l (Live e) = link_line at e (codes "open") ++ bytes_lines at l
-state_text at l (Over e) = link_line at e (cause_text e.cause) ++ bytes_lines at l
+state_text at l (Live e) = open_line at e ++ bytes_lines at l
+state_text at l (Over e) = over_line at e ++ bytes_lines at l
 
 abbrev pub link_text : ℕ → LinkRecord → List ℕ
 link_text at l = state_text at l l.state

@@ -2,25 +2,15 @@
 
 ghost use Rattle.std.specs.Prelude.{◌≡◌, ℕ, List, Option, Some, None, Bool, true, false, IfOk, if◌then◌else◌};
 ghost use Rattle.sw_text.specs.Numbers.{number_within};
-ghost use Rattle.sw_drill.specs.Draft.{opened, open_of, sent, data_of, closed, end_of, turn_of, turns_of, run_of, named, line_of, after_step, after_line, first_read, second_read, schedule_read, line_read, fresh};
+ghost use Rattle.sw_drill.specs.Draft.{opened, open_of, sent, data_of, closed, end_of, turn_of, turns_of, run_of, named, after_step, after_line, set_read, is_in_front, set_at, schedule_read, worded, line_read, fresh};
 
-use crate::fields::{actor, mark};
+use crate::fields::{actor, is_setting_name, set_value};
+use crate::pairs::Pairs;
 use crate::schedule::{Line, Lines};
 use std::alloc::Global;
 use sw_data::{Octets, OutOfMemory};
 use sw_record::Step;
 use sw_text::{bytes, cut, ip, is, number_within, part};
-
-/// Which line comes next.
-#[derive(Clone, Copy, Debug)]
-pub enum Stage {
-    /// The first line, which says that packets end at a mark.
-    First,
-    /// The second line, which says which mark.
-    Second,
-    /// A line of the schedule.
-    Schedule,
-}
 
 /// What is known of the link's peer.
 #[derive(Clone, Copy, Debug)]
@@ -36,8 +26,7 @@ pub enum Peer {
 /// What was read so far.
 #[derive(Drop)]
 pub struct Draft {
-    pub stage: Stage,
-    pub mark: Octets,
+    pub pairs: Pairs,
     pub peer: Peer,
     pub lines: Lines,
 }
@@ -137,7 +126,7 @@ fn run_line(text: &[u8]) -> Option<Line>
 
 /// The line that begins with this word.
 fn named(alloc: Global, peer: Peer, word: &[u8], rest: &[u8]) -> Result<Option<Line>, OutOfMemory>
-    ensures { IfOk result (λ l. l ≡ named peer (word.now, rest.now)) }
+    ensures { IfOk result (λ l. l ≡ named peer word.now rest.now) }
 {
     if is(word, "open") {
         return Ok(open_line(peer, rest));
@@ -155,16 +144,6 @@ fn named(alloc: Global, peer: Peer, word: &[u8], rest: &[u8]) -> Result<Option<L
         return Ok(run_line(rest));
     }
     Ok(None)
-}
-
-#[tactic(auto, unfolding(crate::specs::Draft::line_of))]
-fn line(alloc: Global, peer: Peer, text: &[u8]) -> Result<Option<Line>, OutOfMemory>
-    ensures { IfOk result (λ l. l ≡ line_of peer text.now) }
-{
-    match part(text, 32) {
-        None => Ok(None),
-        Some((word, rest)) => named(alloc, peer, word, rest),
-    }
 }
 
 fn after_step(step: &Step, peer: Peer) -> Peer
@@ -195,52 +174,58 @@ impl Draft {
         ensures { result ≡ fresh }
     {
         Draft {
-            stage: Stage::First,
-            mark: Octets::new(alloc),
+            pairs: Pairs::new(alloc),
             peer: Peer::Absent,
             lines: Lines::new(alloc),
         }
     }
 
-    #[tactic(auto, unfolding(crate::specs::Draft::first_read))]
-    fn read_first(&mut self, line: &[u8]) -> bool
-        ensures { first_read self.old line.now ≡ (if result then Some self.new else None) }
+    #[tactic(auto, unfolding(crate::specs::Draft::set_read))]
+    fn read_set(&mut self, alloc: Global, text: &[u8]) -> Result<bool, OutOfMemory>
+        ensures { IfOk result (λ ok. set_read self.old text.now ≡ (if ok then Some self.new else None)) }
     {
-        if is(line, "set open_eof_split true") {
-            self.stage = Stage::Second;
-            true
-        } else {
-            false
+        let Some((name, text)) = part(text, 32) else {
+            return Ok(false);
+        };
+        if !is_setting_name(name) {
+            return Ok(false);
+        }
+        let Some(value) = set_value(alloc, text)? else {
+            return Ok(false);
+        };
+        self.pairs.add(alloc, name, value)
+    }
+
+    /// Whether no line of the schedule came yet.
+    fn is_in_front(&self) -> bool
+        ensures { result ≡ is_in_front self.now.lines }
+    {
+        match self.lines.as_slice() {
+            [] => true,
+            [_, ..] => false,
         }
     }
 
-    #[tactic(auto, unfolding(crate::specs::Draft::second_read))]
-    fn read_second(&mut self, alloc: Global, line: &[u8]) -> Result<bool, OutOfMemory>
-        ensures { IfOk result (λ ok. second_read self.old line.now ≡ (if ok then Some self.new else None)) }
+    fn read_set_in_front(&mut self, alloc: Global, text: &[u8]) -> Result<bool, OutOfMemory>
+        ensures { IfOk result (λ ok. set_at self.old text.now ≡ (if ok then Some self.new else None)) }
     {
-        let Some((set, rest)) = part(line, 32) else {
-            return Ok(false);
-        };
-        let Some((key, value)) = part(rest, 32) else {
-            return Ok(false);
-        };
-        let Some(mark) = mark(alloc, value)? else {
-            return Ok(false);
-        };
-        if is(set, "set") && is(key, "package_eof") {
-            self.stage = Stage::Schedule;
-            self.mark = mark;
-            Ok(true)
+        if self.is_in_front() {
+            self.read_set(alloc, text)
         } else {
             Ok(false)
         }
     }
 
     #[tactic(auto, unfolding(crate::specs::Draft::schedule_read))]
-    fn read_schedule(&mut self, alloc: Global, text: &[u8]) -> Result<bool, OutOfMemory>
-        ensures { IfOk result (λ ok. schedule_read self.old text.now ≡ (if ok then Some self.new else None)) }
+    fn read_schedule(
+        &mut self,
+        alloc: Global,
+        word: &[u8],
+        rest: &[u8],
+    ) -> Result<bool, OutOfMemory>
+        ensures { IfOk result (λ ok. schedule_read self.old word.now rest.now ≡ (if ok then Some self.new else None)) }
     {
-        let Some(line) = line(alloc, self.peer, text)? else {
+        let Some(line) = named(alloc, self.peer, word, rest)? else {
             return Ok(false);
         };
         let peer = after_line(&line, self.peer);
@@ -249,14 +234,24 @@ impl Draft {
         Ok(true)
     }
 
+    fn read_worded(&mut self, alloc: Global, word: &[u8], rest: &[u8]) -> Result<bool, OutOfMemory>
+        ensures { IfOk result (λ ok. worded self.old (word.now, rest.now) ≡ (if ok then Some self.new else None)) }
+    {
+        if is(word, "set") {
+            self.read_set_in_front(alloc, rest)
+        } else {
+            self.read_schedule(alloc, word, rest)
+        }
+    }
+
     /// Reads one line more, and answers whether it is in the grammar there. After an error the draft isn't to be used.
+    #[tactic(auto, unfolding(crate::specs::Draft::line_read))]
     pub fn read_line(&mut self, alloc: Global, line: &[u8]) -> Result<bool, OutOfMemory>
         ensures { IfOk result (λ ok. line_read self.old line.now ≡ (if ok then Some self.new else None)) }
     {
-        match self.stage {
-            Stage::First => Ok(self.read_first(line)),
-            Stage::Second => self.read_second(alloc, line),
-            Stage::Schedule => self.read_schedule(alloc, line),
+        match part(line, 32) {
+            None => Ok(false),
+            Some((word, rest)) => self.read_worded(alloc, word, rest),
         }
     }
 }

@@ -1,13 +1,15 @@
-// The text of a drill: the schedule that is read, and the record that is printed. Stands between the top call and the core,
-// and knows neither.
+// The text of a drill: the settings and the schedule that are read, and the record that is printed. Stands between the top
+// call and the core, and knows neither.
 #![tactic(auto)]
 
 mod draft;
 mod fields;
+mod pairs;
 mod printing;
 mod reading;
 mod schedule;
 
+pub use pairs::Pairs;
 pub use printing::print;
 pub use reading::{read, reading_is_exact};
 pub use schedule::{Drill, Line, Lines};

@@ -2,20 +2,12 @@
 
 ghost use Rattle.std.specs.Prelude.{◌≡◌, ℕ, ◌++◌, List, codes, OnOk, IfOk, string_bytes};
 ghost use Rattle.std.specs.List.{flat_map};
-ghost use Rattle.sw_drill.specs.Print.{each_text, cause_text, place_text, counts_text, known_text, label_text, link_line, piece_text, pieces_text, in_line, out_line, bytes_lines, state_text, link_text, event_text, answer_text, given_text, act_text, entry_line, log_text, record_text};
+ghost use Rattle.sw_drill.specs.Print.{each_text, cause_text, place_text, counts_text, known_text, label_text, start_text, open_line, over_line, piece_text, pieces_text, in_line, out_line, bytes_lines, state_text, link_text, event_text, answer_text, given_text, act_text, entry_line, log_text, record_text};
 
 use std::alloc::Global;
 use sw_data::{Act, Answer, Cause, Ended, Event, Given, Log, Octets, OutOfMemory, Session};
 use sw_record::{LinkRecord, LinkState, Record};
 use sw_text::{put_bytes, put_ip, put_number};
-
-fn cause_name(cause: Cause) -> &'static str
-    ensures { result.now ≡ cause_text cause }
-{
-    match cause {
-        Cause::PeerEnd => "PeerEnd",
-    }
-}
 
 fn put_place(out: &mut String, session: Option<Session>, fd: u32) -> Result<(), OutOfMemory>
     ensures { OnOk result (string_bytes out.new ≡ string_bytes out.old ++ place_text session fd) }
@@ -58,13 +50,39 @@ fn put_label(out: &mut String, word: &str, number: u64) -> Result<(), OutOfMemor
     Ok(())
 }
 
-fn put_link_line(out: &mut String, at: u64, e: &Ended, ending: &str) -> Result<(), OutOfMemory>
-    ensures { OnOk result (string_bytes out.new ≡ string_bytes out.old ++ link_line at e.now ending.now) }
+fn put_cause(out: &mut String, cause: Cause) -> Result<(), OutOfMemory>
+    ensures { OnOk result (string_bytes out.new ≡ string_bytes out.old ++ cause_text cause) }
+{
+    match cause {
+        Cause::PeerEnd => out.push_str("PeerEnd")?,
+        Cause::TooLong(n) => put_label(out, "TooLong ", n)?,
+        Cause::BadLength(n) => put_label(out, "BadLength ", n)?,
+    }
+    Ok(())
+}
+
+/// The part of a link's first line in front of how it ended.
+fn put_start(out: &mut String, at: u64, e: &Ended) -> Result<(), OutOfMemory>
+    ensures { OnOk result (string_bytes out.new ≡ string_bytes out.old ++ start_text at e.now) }
 {
     put_label(out, "link ", at)?;
     out.push_str(" ")?;
-    put_known(out, e)?;
-    out.push_str(ending)?;
+    put_known(out, e)
+}
+
+fn put_open_line(out: &mut String, at: u64, e: &Ended) -> Result<(), OutOfMemory>
+    ensures { OnOk result (string_bytes out.new ≡ string_bytes out.old ++ open_line at e.now) }
+{
+    put_start(out, at, e)?;
+    out.push_str("open\n")?;
+    Ok(())
+}
+
+fn put_over_line(out: &mut String, at: u64, e: &Ended) -> Result<(), OutOfMemory>
+    ensures { OnOk result (string_bytes out.new ≡ string_bytes out.old ++ over_line at e.now) }
+{
+    put_start(out, at, e)?;
+    put_cause(out, e.cause)?;
     out.push_str("\n")?;
     Ok(())
 }
@@ -123,16 +141,17 @@ fn put_waiting(out: &mut String, at: u64) -> Result<(), OutOfMemory>
     Ok(())
 }
 
-fn put_accepted(
-    out: &mut String,
-    at: u64,
-    link: &LinkRecord,
-    e: &Ended,
-    ending: &str,
-) -> Result<(), OutOfMemory>
-    ensures { OnOk result (string_bytes out.new ≡ string_bytes out.old ++ (link_line at e.now ending.now ++ bytes_lines at link.now)) }
+fn put_live(out: &mut String, at: u64, link: &LinkRecord, e: &Ended) -> Result<(), OutOfMemory>
+    ensures { OnOk result (string_bytes out.new ≡ string_bytes out.old ++ (open_line at e.now ++ bytes_lines at link.now)) }
 {
-    put_link_line(out, at, e, ending)?;
+    put_open_line(out, at, e)?;
+    put_byte_lines(out, at, link)
+}
+
+fn put_over(out: &mut String, at: u64, link: &LinkRecord, e: &Ended) -> Result<(), OutOfMemory>
+    ensures { OnOk result (string_bytes out.new ≡ string_bytes out.old ++ (over_line at e.now ++ bytes_lines at link.now)) }
+{
+    put_over_line(out, at, e)?;
     put_byte_lines(out, at, link)
 }
 
@@ -141,8 +160,8 @@ fn put_link(out: &mut String, at: u64, link: &LinkRecord) -> Result<(), OutOfMem
 {
     match &link.state {
         LinkState::Waiting => put_waiting(out, at),
-        LinkState::Live(e) => put_accepted(out, at, link, e, "open"),
-        LinkState::Over(e) => put_accepted(out, at, link, e, cause_name(e.cause)),
+        LinkState::Live(e) => put_live(out, at, link, e),
+        LinkState::Over(e) => put_over(out, at, link, e),
     }
 }
 

@@ -3,10 +3,9 @@
 ghost use Rattle.std.specs.Prelude.{◌≡◌, ℕ, List, Option, Some, None, Ok, IfOk};
 ghost use Rattle.sw_text.specs.Parts.{lines_of};
 ghost use Rattle.sw_drill.specs.Draft.{drill_of, lines_read, fresh};
-ghost use Rattle.sw_drill.specs.Fields.{IsMark};
 ghost use Rattle.sw_drill.specs.Grammar.{IsRead};
 
-use crate::draft::{Draft, Stage};
+use crate::draft::Draft;
 use crate::schedule::Drill;
 use std::alloc::Global;
 use sw_data::OutOfMemory;
@@ -28,29 +27,18 @@ fn lines(alloc: Global, text: &[u8]) -> Result<Result<Draft, u64>, OutOfMemory>
     Ok(Ok(draft))
 }
 
-fn read_text(alloc: Global, text: &[u8]) -> Result<Result<Drill, u64>, OutOfMemory>
+/// What a text says, or the number, from 1, of its first line that isn't in the grammar. It answers an error of its own where
+/// memory runs out. An empty text says that nothing is set and nothing happens.
+pub fn read(alloc: Global, text: &[u8]) -> Result<Result<Drill, u64>, OutOfMemory>
     ensures { IfOk result (λ r. r ≡ drill_of text.now) }
 {
     match lines(alloc, text)? {
         Err(n) => Ok(Err(n)),
-        Ok(draft) => match draft.stage {
-            Stage::First => Ok(Err(1)),
-            Stage::Second => Ok(Err(2)),
-            Stage::Schedule => Ok(Ok(Drill {
-                mark: draft.mark,
-                lines: draft.lines,
-            })),
-        },
+        Ok(draft) => Ok(Ok(Drill {
+            pairs: draft.pairs,
+            lines: draft.lines,
+        })),
     }
-}
-
-/// What a text says, or the number, from 1, of its first line that isn't in the grammar or is missing. It answers an error of
-/// its own where memory runs out.
-pub fn read(alloc: Global, text: &[u8]) -> Result<Result<Drill, u64>, OutOfMemory>
-    ensures value { IfOk result (λ r. r ≡ drill_of text.now) }
-    ensures marked { IfOk result (λ r. IfOk r (λ d. IsMark d.mark)) }
-{
-    read_text(alloc, text)
 }
 
 /// What reading answers, for each text, in terms of its lines alone.

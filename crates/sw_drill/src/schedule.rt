@@ -2,9 +2,10 @@
 
 ghost use Rattle.std.specs.Prelude.{◌≡◌, [], ◌∷◌, ◌++◌, OnOk, OnErr};
 
+use crate::pairs::Pairs;
 use std::alloc::Global;
 use std::marker::Model;
-use sw_data::{Octets, OutOfMemory};
+use sw_data::OutOfMemory;
 use sw_record::{ActorId, Step};
 
 /// A line of a schedule. One line may stand for many steps.
@@ -70,7 +71,7 @@ impl Lines {
 /// What the text of a drill says.
 #[derive(Drop)]
 pub struct Drill {
-    /// The mark that ends a packet, 1 to 8 bytes.
-    pub mark: Octets,
+    /// What the server is set to, as it was read.
+    pub pairs: Pairs,
     pub lines: Lines,
 }

@@ -5,6 +5,7 @@ use std::alloc::Global;
 use std::test::Fail;
 use sw_data::{Act, Answer, Cause, Ended, Event, Given, Log, Octets, Pieces, Session};
 use sw_record::{ActorId, LinkRecord, LinkState, Links, Logs, Record, Step};
+use sw_settings::SetValue;
 
 const HEAD: &str = "set open_eof_split true\nset package_eof x0d0a\n";
 
@@ -16,31 +17,71 @@ fn outcome(alloc: Global, text: &str) -> Result<Result<usize, u64>, Fail> {
     }
 }
 
+/// How many settings were read, or the line that was refused.
+fn set(alloc: Global, text: &str) -> Result<Result<usize, u64>, Fail> {
+    match read(alloc, text.as_bytes())? {
+        Ok(drill) => Ok(Ok(drill.pairs.into_vec().len())),
+        Err(line) => Ok(Err(line)),
+    }
+}
+
 #[test]
 fn heads(rt: HostRuntime) -> Result<(), Fail> {
     let texts = [
-        ("", Err(1)),
-        ("set open_eof_split true", Err(2)),
-        ("set open_eof_split true\n", Err(2)),
-        ("set package_eof x0d0a\n", Err(1)),
-        ("data 0 61", Err(1)),
-        ("set open_eof_split false\n", Err(1)),
-        ("set open_eof_split true\r\n", Err(1)),
-        ("set open_eof_split true\nset package_eof x", Err(2)),
+        ("", Ok(0)),
+        ("run 1", Ok(0)),
+        ("set zz 1", Ok(1)),
         (
-            "set open_eof_split true\nset package_eof x010203040506070809",
-            Err(2),
+            "set open_eof_split true\nset package_eof x0d0a\nset a_b =c\nrun 1",
+            Ok(3),
         ),
-        (
-            "set open_eof_split true\nset package_eof x0102030405060708",
-            Ok(0),
-        ),
-        ("set open_eof_split true\nset package_eof =a", Err(2)),
-        ("set open_eof_split true\nset package_max_length 4", Err(2)),
-        ("set open_eof_split true\n\n", Err(2)),
+        ("set a 18446744073709551615", Ok(1)),
+        ("set a 18446744073709551616", Err(1)),
+        ("set a -1", Err(1)),
+        ("set a 01", Err(1)),
+        ("set a True", Err(1)),
+        ("set a x", Err(1)),
+        ("set a x616", Err(1)),
+        ("set a x6A", Err(1)),
+        ("set a =", Ok(1)),
+        ("set a =b c", Err(1)),
+        ("set a 1 ", Err(1)),
+        ("set a ", Err(1)),
+        ("set a", Err(1)),
+        ("set  1", Err(1)),
+        ("set A 1", Err(1)),
+        ("set a1 1", Err(1)),
+        ("set", Err(1)),
+        ("set a 1\nset b 1\nset a 2", Err(3)),
+        ("set a 1\n\nset b 1", Err(2)),
+        ("set a 1\nopen 127.0.0.1\nset b 1", Err(3)),
+        ("on connect - : done", Err(1)),
     ];
     for (text, want) in texts {
-        assert_eq!(rt; outcome(rt.alloc(), text)?, want, "at {text}");
+        assert_eq!(rt; set(rt.alloc(), text)?, want, "at {text}");
+    }
+    Ok(())
+}
+
+#[test]
+fn values(rt: HostRuntime) -> Result<(), Fail> {
+    let text = b"set a 7\nset b true\nset c false\nset d x0d0a\nset e =x0d\nset f =\n";
+    let drill = read(rt.alloc(), text)?.ok().ok_or("refused")?;
+    let pairs = drill.pairs.into_vec();
+    let names: [&[u8]; 6] = [b"a", b"b", b"c", b"d", b"e", b"f"];
+    assert_eq!(rt; pairs.len(), 6);
+    for (pair, name) in pairs.iter().zip(names) {
+        assert_eq!(rt; pair.name.bytes(), name);
+    }
+    assert!(rt; matches!(&pairs[0].value, SetValue::Number(7)));
+    assert!(rt; matches!(&pairs[1].value, SetValue::Truth(true)));
+    assert!(rt; matches!(&pairs[2].value, SetValue::Truth(false)));
+    let texts: [&[u8]; 3] = [b"\r\n", b"x0d", b""];
+    for (pair, want) in pairs[3..].iter().zip(texts) {
+        let SetValue::Text(text) = &pair.value else {
+            return Err("no text".into());
+        };
+        assert_eq!(rt; text.bytes(), want);
     }
     Ok(())
 }
@@ -68,6 +109,8 @@ fn schedules(rt: HostRuntime) -> Result<(), Fail> {
         ("open 127.0.0.1\nend 0\nend 0\n", Err(5)),
         ("open 127.0.0.1\n\nend 0\n", Err(4)),
         ("open 127.0.0.1\nend 0\n\n", Err(5)),
+        ("set a 1\n", Ok(0)),
+        ("run 1\nset a 1\n", Err(4)),
         ("turn r1 1\n", Err(3)),
         ("turn r0 0\n", Err(3)),
         ("turn r0 100001\n", Err(3)),
@@ -92,7 +135,6 @@ fn schedules(rt: HostRuntime) -> Result<(), Fail> {
 fn lines_mean_their_steps(rt: HostRuntime) -> Result<(), Fail> {
     let text = format!(in rt.alloc(); "{HEAD}open 127.0.0.1\nturn r0\nrun 200\n")?;
     let drill = read(rt.alloc(), text.as_bytes())?.ok().ok_or("refused")?;
-    assert_eq!(rt; drill.mark.bytes(), b"\r\n".as_slice());
     let [first, second, third] = drill.lines.as_slice() else {
         return Err("other lines".into());
     };
@@ -106,7 +148,7 @@ fn octets(alloc: Global, bytes: &[u8]) -> Result<Octets, Fail> {
     Ok(Octets::of(Vec::from_slice(alloc, bytes)?))
 }
 
-fn ended(session: Option<Session>, fd: u32) -> Ended {
+fn ended(session: Option<Session>, fd: u32, cause: Cause) -> Ended {
     Ended {
         session,
         fd,
@@ -114,7 +156,7 @@ fn ended(session: Option<Session>, fd: u32) -> Ended {
         uid: 0,
         dispatched: 2,
         split: 2,
-        cause: Cause::PeerEnd,
+        cause,
     }
 }
 
@@ -123,9 +165,11 @@ fn links(alloc: Global, one: Session) -> Result<Links, Fail> {
     pieces.push(octets(alloc, b"a\r")?)?;
     pieces.push(octets(alloc, b"\nb\r\n")?)?;
     let states = [
-        LinkState::Over(ended(Some(one), 1)),
-        LinkState::Live(ended(None, 0)),
+        LinkState::Over(ended(Some(one), 1, Cause::PeerEnd)),
+        LinkState::Live(ended(None, 0, Cause::PeerEnd)),
         LinkState::Waiting,
+        LinkState::Over(ended(Some(one), 1, Cause::TooLong(4))),
+        LinkState::Over(ended(Some(one), 1, Cause::BadLength(3))),
     ];
     let mut links = Links::new(alloc);
     for state in states {
@@ -169,6 +213,12 @@ link 1 session - fd - ip 127.0.0.1 uid 0 packets 2 split 2 open
 in 1 -
 out 1 610d0a620d0a
 link 2 waiting
+link 3 session 1 fd 1 ip 127.0.0.1 uid 0 packets 2 split 2 TooLong 4
+in 3 -
+out 3 610d0a620d0a
+link 4 session 1 fd 1 ip 127.0.0.1 uid 0 packets 2 split 2 BadLength 3
+in 4 -
+out 4 610d0a620d0a
 w1 connect 1 -> done
 w1 packet 1 0 610d0a -> send 1 610d0a
 w1 sent -> done

@@ -2,7 +2,7 @@
 use Rattle.std.proofs.Common.{◌≡◌, ℕ, ◌+◌, ◌≤◌, Bool, true, List, [], ◌∷◌, ◌++◌, length, refl, ap, ◌∙◌, sym, subst, arith, append-nil, append_assoc, Option, Some, None, slice_get, inl, inr, take_all, suc}
 use Rattle.std.specs.List.{concat}
 use Rattle.sw_data.specs.declared.ended.Ended.{Ended}
-use Rattle.sw_data.specs.declared.ended.Cause.TheVariants.{PeerEnd}
+use Rattle.sw_data.specs.declared.ended.Cause.{Cause}
 use Rattle.sw_data.specs.declared.events.Event.{Event}
 use Rattle.sw_data.specs.declared.events.Event.TheVariants.{Connect, Closed}
 use Rattle.sw_data.specs.declared.events.Given.{Given}
@@ -13,6 +13,7 @@ use Rattle.sw_data.specs.declared.events.Act.{Act}
 use Rattle.sw_data.specs.declared.events.Act.TheVariants.{Send as SendAct}
 use Rattle.sw_data.specs.declared.messages.Msg.{Msg}
 use Rattle.sw_data.specs.declared.messages.Msg.TheVariants.{Fresh, Send, Bye, Event as EventMsg}
+use Rattle.sw_frame.specs.declared.framing.Framing.{Framing}
 use Rattle.sw_link.specs.declared.link.Link.{Link}
 use Rattle.sw_record.specs.declared.record.LinkRecord.{LinkRecord}
 use Rattle.sw_record.specs.declared.record.LinkState.TheVariants.{Waiting, Over}
@@ -21,7 +22,7 @@ use Rattle.sw_record.specs.Sends.{Sends, Merge}
 use Rattle.sw_record.specs.Terms.{HasLink, IsPrefix, session_of, target, numbered}
 use Rattle.sw_record.specs.Bytes.{Owned, Own, EndsDone, StandsLate}
 use Rattle.sw_record.specs.Ends.{IsToldWhole, Drained, accepted_in, accepted}
-use Rattle.sw_record.specs.Causes.{HasAnswer}
+use Rattle.sw_record.specs.Causes.{HasAnswer, ShowsCause}
 use Rattle.sw_record.specs.Right.{Right}
 use Rattle.sw_laws.specs.Messages.{events_in, from_worker, before_fresh, behind_fresh, send_in, sends_in, bye_in, byes_in}
 use Rattle.sw_laws.specs.Story.{story, packets_from, packets_of}
@@ -115,18 +116,18 @@ own_by l s log taken wt wp es j p rest e w is =
     }
 
 -- a link that isn't over
-pub right_live : (mark : List ℕ) (l : LinkRecord) (log : List (Given × Act)) (taken wt wp : List (Msg Link ℕ)) (es : List Event) (at_end : List Bool) → SaidOf l.state l.ip → session_of l.state ≡ Some 1 → ((e : Ended) → l.state ≡ Over e → ⊥) → IsPrefix es (story 1 true (packets_of mark l.pieces) true) → IsPrefix l.written (concat (sends_in 1 (behind_fresh taken))) → IsJoined log taken wt wp es → Right (core_terms mark) (one_link l log) at_end
-right_live mark l log taken wt wp es at_end said is live told written j =
+pub right_live : (framing : Framing) (l : LinkRecord) (log : List (Given × Act)) (taken wt wp : List (Msg Link ℕ)) (es : List Event) (at_end : List Bool) → SaidOf l.state l.ip → session_of l.state ≡ Some 1 → ((e : Ended) → l.state ≡ Over e → ⊥) → IsPrefix es (story 1 true (packets_of framing l.pieces) true) → IsPrefix l.written (concat (sends_in 1 (behind_fresh taken))) → IsJoined log taken wt wp es → Right (core_terms framing) (one_link l log) at_end
+right_live framing l log taken wt wp es at_end said is live told written j =
     let never : (k : LinkRecord) (u : ℕ) (e : Ended) → HasLink (l ∷ []) u k → k.state ≡ Over e → ⊥ =
     λ k u e has o. live e (ap (λ (x : LinkRecord). x.state) (sym (one_is l k has.at has.there)) ∙ o) in
     record {
-      orderly = orderly mark l 1 log at_end said
+      orderly = orderly framing l 1 log at_end said
           (record { session = is; told = prefix_trans (events_of log) es _ (prefix_trans (events_of log) (events_in wt) es j.worker.told j.to_worker) told; dialogue = j.worker.dialogue; echoed = j.worker.echoed })
           (λ e o. absurd (live e o));
       own = own_by l 1 log taken wt wp es j taken [] (append-nil taken) written is;
       whole = record {
         dispatched = λ u k e has o. absurd (never k u e has o);
-        peer_end = λ u k e has o why. absurd (never k u e has o);
+        all_pushed = λ u k e has o why. absurd (never k u e has o);
         told = λ u k e has o x there. absurd (never k u e has o);
         once = λ u k e has o n x there ev. absurd (never k u e has o);
         written = λ u k e has o why. absurd (never k u e has o);
@@ -141,11 +142,13 @@ last_get : (xs : List Event) (y : Event) → slice_get (xs ++ y ∷ []) (length 
 last_get [] y = refl
 last_get (x ∷ xs) y = last_get xs y
 
--- a link at its end, whose session's whole story was pushed
-pub record IsEnd (mark : List ℕ) (l : LinkRecord) (ended : Ended) (taken : List (Msg Link ℕ)) (es : List Event) : Type 0 where
+-- a link at its end, whose session's whole story was pushed, by whether a read of it answered End
+pub record IsEnd (framing : Framing) (l : LinkRecord) (seen : Bool) (ended : Ended) (taken : List (Msg Link ℕ)) (es : List Event) : Type 0 where
   pub state : l.state ≡ Over ended
-  pub ended_is : ended ≡ record { session = Some 1; fd = 1; ip = l.ip; uid = 0; dispatched = length (packets_of mark l.pieces); split = length (packets_of mark l.pieces); cause = PeerEnd }
-  pub told : es ≡ story 1 true (packets_of mark l.pieces) true
+  pub cause : Cause
+  pub why : ShowsCause framing l.pieces (Some seen) cause
+  pub ended_is : ended ≡ record { session = Some 1; fd = 1; ip = l.ip; uid = 0; dispatched = length (packets_of framing l.pieces); split = length (packets_of framing l.pieces); cause = cause }
+  pub told : es ≡ story 1 true (packets_of framing l.pieces) true
   pub until : List (Msg Link ℕ)
   pub later : List (Msg Link ℕ)
   pub split : until ++ later ≡ taken
@@ -153,15 +156,15 @@ pub record IsEnd (mark : List ℕ) (l : LinkRecord) (ended : Ended) (taken : Lis
   pub byes : 1 ≤ byes_in 1 until
 
 -- its worker was given the whole story, and is done
-record IsFinished (mark : List ℕ) (l : LinkRecord) (log : List (Given × Act)) (q : List (Msg Link ℕ)) : Type 0 where
-  all : events_of log ≡ story 1 true (packets_of mark l.pieces) true
-  told : told_of 1 log ≡ story 1 true (packets_of mark l.pieces) true
+record IsFinished (framing : Framing) (l : LinkRecord) (log : List (Given × Act)) (q : List (Msg Link ℕ)) : Type 0 where
+  all : events_of log ≡ story 1 true (packets_of framing l.pieces) true
+  told : told_of 1 log ≡ story 1 true (packets_of framing l.pieces) true
   none_left : q ≡ []
   done : EndsDone log
 
-finished : (mark : List ℕ) (l : LinkRecord) (ended : Ended) (log : List (Given × Act)) (taken wt wp : List (Msg Link ℕ)) (es : List Event) (h : IsEnd mark l ended taken es) (j : IsJoined log taken wt wp es) → IsFinished mark l log (said_behind log taken wt wp es j h.later)
-finished mark l ended log taken wt wp es h j =
-    let bs : List (List ℕ) = packets_of mark l.pieces in
+finished : (framing : Framing) (l : LinkRecord) (seen : Bool) (ended : Ended) (log : List (Given × Act)) (taken wt wp : List (Msg Link ℕ)) (es : List Event) (h : IsEnd framing l seen ended taken es) (j : IsJoined log taken wt wp es) → IsFinished framing l log (said_behind log taken wt wp es j h.later)
+finished framing l seen ended log taken wt wp es h j =
+    let bs : List (List ℕ) = packets_of framing l.pieces in
     let q : List (Msg Link ℕ) = said_behind log taken wt wp es j h.later in
     let p : from_worker h.until ++ q ≡ said_all log = said_split log taken wt wp es j h.until h.later h.split in
     let byes : 1 ≤ byes_in 1 (from_worker h.until) = subst (λ n. 1 ≤ n) (byes_from_worker 1 h.until) h.byes in
@@ -175,23 +178,23 @@ finished mark l ended log taken wt wp es h j =
       done = (ends.0, (EventGiven (Closed 1), ends.1.0));
     }
 
-told_whole : (mark : List ℕ) (l : LinkRecord) (ended : Ended) (log : List (Given × Act)) (q : List (Msg Link ℕ)) → ended.dispatched ≡ length (packets_of mark l.pieces) → IsFinished mark l log q → IsToldWhole (core_terms mark) 1 l ended log
-told_whole mark l ended log q n f =
-    let bs : List (List ℕ) = packets_of mark l.pieces in
+told_whole : (framing : Framing) (l : LinkRecord) (ended : Ended) (log : List (Given × Act)) (q : List (Msg Link ℕ)) → ended.dispatched ≡ length (packets_of framing l.pieces) → IsFinished framing l log q → IsToldWhole (core_terms framing) 1 l ended log
+told_whole framing l ended log q n f =
+    let bs : List (List ℕ) = packets_of framing l.pieces in
     record {
       connect = (0, rw f.told refl);
       closed = (length (Connect 1 ∷ packets_from 1 0 bs), rw f.told (last_get (Connect 1 ∷ packets_from 1 0 bs) (Closed 1)));
       packets = ap packets_in f.told ∙ story_packets 1 bs ∙ sym (take_all ended.dispatched (numbered 0 bs) (omega (arith, n, length-numbered 0 bs)));
     }
 
-said_end : (mark : List ℕ) (l : LinkRecord) (ended : Ended) (taken : List (Msg Link ℕ)) (es : List Event) → IsEnd mark l ended taken es → SaidOf l.state l.ip
-said_end mark l ended taken es h = rw (h.state, h.ended_is) (refl, refl, refl)
+said_end : (framing : Framing) (l : LinkRecord) (seen : Bool) (ended : Ended) (taken : List (Msg Link ℕ)) (es : List Event) → IsEnd framing l seen ended taken es → SaidOf l.state l.ip
+said_end framing l seen ended taken es h = rw (h.state, h.ended_is) (refl, refl, refl)
 
-session_end : (mark : List ℕ) (l : LinkRecord) (ended : Ended) (taken : List (Msg Link ℕ)) (es : List Event) → IsEnd mark l ended taken es → session_of l.state ≡ Some 1
-session_end mark l ended taken es h = rw (h.state, h.ended_is) refl
+session_end : (framing : Framing) (l : LinkRecord) (seen : Bool) (ended : Ended) (taken : List (Msg Link ℕ)) (es : List Event) → IsEnd framing l seen ended taken es → session_of l.state ≡ Some 1
+session_end framing l seen ended taken es h = rw (h.state, h.ended_is) refl
 
-same_end : (mark : List ℕ) (l : LinkRecord) (ended : Ended) (taken : List (Msg Link ℕ)) (es : List Event) → IsEnd mark l ended taken es → (k : LinkRecord) (e : Ended) → k ≡ l → k.state ≡ Over e → e ≡ ended
-same_end mark l ended taken es h k e same o =
+same_end : (framing : Framing) (l : LinkRecord) (seen : Bool) (ended : Ended) (taken : List (Msg Link ℕ)) (es : List Event) → IsEnd framing l seen ended taken es → (k : LinkRecord) (e : Ended) → k ≡ l → k.state ≡ Over e → e ≡ ended
+same_end framing l seen ended taken es h k e same o =
     let f : l.state ≡ Over e = ap (λ (x : LinkRecord). x.state) (sym same) ∙ o in
     let g : l.state ≡ Over ended = h.state in
     cc
@@ -200,24 +203,24 @@ stands_late : (log : List (Given × Act)) (u : ℕ) (q : List (Msg Link ℕ)) �
 stands_late log u q none done =
     record { until = log; late = []; split = sym (append-nil log); done = done; untold = refl; sends = ([], ap (sends_in 1) none) }
 
-pub right_over : (mark : List ℕ) (l : LinkRecord) (ended : Ended) (log : List (Given × Act)) (taken wt wp : List (Msg Link ℕ)) (es : List Event) → IsEnd mark l ended taken es → IsJoined log taken wt wp es → Right (core_terms mark) (one_link l log) (true ∷ [])
-right_over mark l ended log taken wt wp es h j =
-    let bs : List (List ℕ) = packets_of mark l.pieces in
-    let is : session_of l.state ≡ Some 1 = session_end mark l ended taken es h in
-    let f : IsFinished mark l log (said_behind log taken wt wp es j h.later) = finished mark l ended log taken wt wp es h j in
+pub right_over : (framing : Framing) (l : LinkRecord) (seen : Bool) (ended : Ended) (log : List (Given × Act)) (taken wt wp : List (Msg Link ℕ)) (es : List Event) → IsEnd framing l seen ended taken es → IsJoined log taken wt wp es → Right (core_terms framing) (one_link l log) (seen ∷ [])
+right_over framing l seen ended log taken wt wp es h j =
+    let bs : List (List ℕ) = packets_of framing l.pieces in
+    let is : session_of l.state ≡ Some 1 = session_end framing l seen ended taken es h in
+    let f : IsFinished framing l log (said_behind log taken wt wp es j h.later) = finished framing l seen ended log taken wt wp es h j in
     let count : ended.dispatched ≡ length bs = ap (λ (x : Ended). x.dispatched) h.ended_is in
     let own : Own (one_link l log) = own_by l 1 log taken wt wp es j h.until h.later h.split (([]), append-nil l.written ∙ h.bytes) is in
     record {
-      orderly = orderly mark l 1 log (true ∷ []) (said_end mark l ended taken es h)
+      orderly = orderly framing l 1 log (seen ∷ []) (said_end framing l seen ended taken es h)
           (record { session = is; told = ([], append-nil (events_of log) ∙ f.all); dialogue = j.worker.dialogue; echoed = j.worker.echoed })
-          (λ e o. refl);
+          (λ e o. rw (same_end framing l seen ended taken es h l e refl o, h.ended_is) h.why);
       own = own_by l 1 log taken wt wp es j h.until h.later h.split ([], append-nil l.written ∙ h.bytes) is;
       whole = record {
-        dispatched = λ u k e has o. let same : k ≡ l = one_is l k has.at has.there in rw (same_end mark l ended taken es h k e same o, same) (omega (arith, count, length-numbered 0 bs));
-        peer_end = λ u k e has o why. let same : k ≡ l = one_is l k has.at has.there in rw (same_end mark l ended taken es h k e same o, same) (count ∙ sym (length-numbered 0 bs));
+        dispatched = λ u k e has o. let same : k ≡ l = one_is l k has.at has.there in rw (same_end framing l seen ended taken es h k e same o, same) (omega (arith, count, length-numbered 0 bs));
+        all_pushed = λ u k e has o why. let same : k ≡ l = one_is l k has.at has.there in rw (same_end framing l seen ended taken es h k e same o, same) (count ∙ sym (length-numbered 0 bs));
         told = λ u k e has o x there. let same : k ≡ l = one_is l k has.at has.there in
-            rw (same_end mark l ended taken es h k e same o, one_is log x (target (core_terms mark) u) there, same_session l 1 is u k has, same) (told_whole mark l ended log (said_behind log taken wt wp es j h.later) count f);
-        once = λ u k e has o n x there ev. one_at log x n there ∙ sym (one_target (core_terms mark) u refl);
+            rw (same_end framing l seen ended taken es h k e same o, one_is log x (target (core_terms framing) u) there, same_session l 1 is u k has, same) (told_whole framing l ended log (said_behind log taken wt wp es j h.later) count f);
+        once = λ u k e has o n x there ev. one_at log x n there ∙ sym (one_target (core_terms framing) u refl);
         written = λ u k e has o why.
             record {
               all = ap (λ (y : LinkRecord). y.written) (one_is l k has.at has.there) ∙ h.bytes;
@@ -226,29 +229,29 @@ right_over mark l ended log taken wt wp es h j =
       };
     }
 
-pub drained_over : (mark : List ℕ) (l : LinkRecord) (ended : Ended) (log : List (Given × Act)) (taken wt wp : List (Msg Link ℕ)) (es : List Event) → IsEnd mark l ended taken es → IsJoined log taken wt wp es → Drained (core_terms mark) (one_link l log)
-drained_over mark l ended log taken wt wp es h j =
-    let bs : List (List ℕ) = packets_of mark l.pieces in
-    let is : session_of l.state ≡ Some 1 = session_end mark l ended taken es h in
-    let f : IsFinished mark l log (said_behind log taken wt wp es j h.later) = finished mark l ended log taken wt wp es h j in
+pub drained_over : (framing : Framing) (l : LinkRecord) (seen : Bool) (ended : Ended) (log : List (Given × Act)) (taken wt wp : List (Msg Link ℕ)) (es : List Event) → IsEnd framing l seen ended taken es → IsJoined log taken wt wp es → Drained (core_terms framing) (one_link l log)
+drained_over framing l seen ended log taken wt wp es h j =
+    let bs : List (List ℕ) = packets_of framing l.pieces in
+    let is : session_of l.state ≡ Some 1 = session_end framing l seen ended taken es h in
+    let f : IsFinished framing l log (said_behind log taken wt wp es j h.later) = finished framing l seen ended log taken wt wp es h j in
     let count : ended.dispatched ≡ length bs = ap (λ (x : Ended). x.dispatched) h.ended_is in
-    let w : IsToldWhole (core_terms mark) 1 l ended log = told_whole mark l ended log (said_behind log taken wt wp es j h.later) count f in
+    let w : IsToldWhole (core_terms framing) 1 l ended log = told_whole framing l ended log (said_behind log taken wt wp es j h.later) count f in
     record {
       handled = λ u k e has o x there. let same : k ≡ l = one_is l k has.at has.there in
-          rw (accepted_end mark l ended taken es h k e same o, one_is log x (target (core_terms mark) u) there, same_session l 1 is u k has, same) w.packets;
-      told = λ u k has x there. rw (one_is log x (target (core_terms mark) u) there, same_session l 1 is u k has) (w.connect, w.closed);
+          rw (accepted_end framing l seen ended taken es h k e same o, one_is log x (target (core_terms framing) u) there, same_session l 1 is u k has, same) w.packets;
+      told = λ u k has x there. rw (one_is log x (target (core_terms framing) u) there, same_session l 1 is u k has) (w.connect, w.closed);
       done = λ n x there. rw (one_is log x n there) (inr f.done);
     }
   where
-    accepted_end : (mark : List ℕ) (l : LinkRecord) (ended : Ended) (taken : List (Msg Link ℕ)) (es : List Event) → IsEnd mark l ended taken es → (k : LinkRecord) (e : Ended) → k ≡ l → accepted_in k.state ≡ Some e → e ≡ ended
-    accepted_end mark l ended taken es h k e same o =
+    accepted_end : (framing : Framing) (l : LinkRecord) (seen : Bool) (ended : Ended) (taken : List (Msg Link ℕ)) (es : List Event) → IsEnd framing l seen ended taken es → (k : LinkRecord) (e : Ended) → k ≡ l → accepted_in k.state ≡ Some e → e ≡ ended
+    accepted_end framing l seen ended taken es h k e same o =
         let a : accepted_in l.state ≡ Some e = ap (λ (x : LinkRecord). accepted_in x.state) (sym same) ∙ o in
         let b : accepted_in l.state ≡ Some ended = ap accepted_in h.state in
         cc
 
 -- without a link that has a session
-pub right_none : (mark : List ℕ) (links : List LinkRecord) (log : List (Given × Act)) (at_end : List Bool) → log ≡ [] → ((at : ℕ) (k : LinkRecord) → slice_get links at ≡ Some k → (k.state ≡ Waiting) × (k.written ≡ [])) → accepted links ≡ [] → Right (core_terms mark) (record { links = links; workers = log ∷ [] }) at_end
-right_none mark links log at_end none waits few =
+pub right_none : (framing : Framing) (links : List LinkRecord) (log : List (Given × Act)) (at_end : List Bool) → log ≡ [] → ((at : ℕ) (k : LinkRecord) → slice_get links at ≡ Some k → (k.state ≡ Waiting) × (k.written ≡ [])) → accepted links ≡ [] → Right (core_terms framing) (record { links = links; workers = log ∷ [] }) at_end
+right_none framing links log at_end none waits few =
     let no_link : (u : ℕ) (k : LinkRecord) → HasLink links u k → ⊥ = λ u k has. absurd (let a : k.state ≡ Waiting = (waits has.at k has.there).0 in let b : session_of k.state ≡ Some u = has.session in let c : session_of k.state ≡ None = ap session_of a in cc) in
     let no_over : (at : ℕ) (k : LinkRecord) (e : Ended) → slice_get links at ≡ Some k → k.state ≡ Over e → ⊥ = λ at k e there o. absurd (let a : k.state ≡ Waiting = (waits at k there).0 in cc) in
     let no_accepted : (at : ℕ) (k : LinkRecord) (e : Ended) → slice_get links at ≡ Some k → accepted_in k.state ≡ Some e → ⊥ = λ at k e there o. absurd (let a : accepted_in k.state ≡ None = ap accepted_in (waits at k there).0 in cc) in
@@ -262,10 +265,10 @@ right_none mark links log at_end none waits few =
           no_stranger = λ n x there u stranger. rw (empty n x there) refl;
         };
         causes = record {
-          peer_end = λ at k e there is why. absurd (no_over at k e there is);
+          cause = λ at k e there is. absurd (no_over at k e there is);
           sent = λ n x there u b has. absurd (no_answer u b Sent (subst (λ (y : List (Given × Act)). HasAnswer y (SendAct u b) Sent) (empty n x there) has));
           refused = λ n x there u seen b has. absurd (no_answer u b (NoSession seen) (subst (λ (y : List (Given × Act)). HasAnswer y (SendAct u b) (NoSession seen)) (empty n x there) has));
-          own = λ u x there before behind given act b seen is own. not_empty before (given, SendAct u b) ((AnswerGiven (NoSession seen), act) ∷ behind) (sym is ∙ empty (target (core_terms mark) u) x there);
+          own = λ u x there before behind given act b seen is own. not_empty before (given, SendAct u b) ((AnswerGiven (NoSession seen), act) ∷ behind) (sym is ∙ empty (target (core_terms framing) u) x there);
         };
         sessions = record {
           over = λ at k e there is. absurd (no_over at k e there is);
@@ -280,7 +283,7 @@ right_none mark links log at_end none waits few =
       own = record { owned = λ u k has. absurd (no_link u k has); nothing = λ at k there is. (waits at k there).1 };
       whole = record {
         dispatched = λ u k e has o. absurd (no_link u k has);
-        peer_end = λ u k e has o why. absurd (no_link u k has);
+        all_pushed = λ u k e has o why. absurd (no_link u k has);
         told = λ u k e has o x there. absurd (no_link u k has);
         once = λ u k e has o n x there ev. absurd (no_link u k has);
         written = λ u k e has o why. absurd (no_link u k has);

@@ -6,13 +6,14 @@ use Rattle.sw_data.specs.declared.events.Given.{Given}
 use Rattle.sw_data.specs.declared.events.Act.{Act}
 use Rattle.sw_data.specs.declared.events.Act.TheVariants.{Send}
 use Rattle.sw_data.specs.declared.events.Answer.TheVariants.{Sent}
+use Rattle.sw_frame.specs.declared.framing.Framing.{Framing}
 use Rattle.sw_record.specs.declared.record.LinkRecord.{LinkRecord}
 use Rattle.sw_record.specs.declared.record.LinkState.{LinkState}
 use Rattle.sw_record.specs.declared.record.LinkState.TheVariants.{Waiting, Live, Over}
 use Rattle.sw_record.specs.declared.record.Record.{Record}
 use Rattle.sw_record.specs.Logs.{events_of, Dialogue}
 use Rattle.sw_record.specs.Terms.{Terms, HasLink, IsPrefix, session_of, target}
-use Rattle.sw_record.specs.Causes.{HasAnswer}
+use Rattle.sw_record.specs.Causes.{HasAnswer, ShowsCause}
 use Rattle.sw_record.specs.Ends.{SessionsOnce, accepted_in, with_accepted}
 use Rattle.sw_record.specs.Right.{IsOrderly}
 use Rattle.sw_laws.specs.Said.{AllEchoed}
@@ -64,8 +65,8 @@ said_next Waiting ip n e h g = absurd (let k : None ≡ Some e = g in cc)
 said_next (Live x) ip n e h g = rw (one_is x e n g, one_at x e n g) h.0
 said_next (Over x) ip n e h g = rw (one_is x e n g, one_at x e n g) h.0
 
-pub sessions_once : (mark : List ℕ) (l : LinkRecord) (log : List (Given × Act)) → SaidOf l.state l.ip → SessionsOnce (core_terms mark) (one_link l log)
-sessions_once mark l log h =
+pub sessions_once : (framing : Framing) (l : LinkRecord) (log : List (Given × Act)) → SaidOf l.state l.ip → SessionsOnce (core_terms framing) (one_link l log)
+sessions_once framing l log h =
     record {
       over = λ at k e there is. let same : k ≡ l = one_is l k at there in
           (1, (said_accepted l.state l.ip e h (ap accepted_in (ap (λ (x : LinkRecord). x.state) (sym same) ∙ is))).0);
@@ -82,9 +83,9 @@ sessions_once mark l log h =
     }
 
 -- a log that was told a beginning of this session's story
-pub record IsTold (mark : List ℕ) (l : LinkRecord) (s : ℕ) (log : List (Given × Act)) : Type 0 where
+pub record IsTold (framing : Framing) (l : LinkRecord) (s : ℕ) (log : List (Given × Act)) : Type 0 where
   pub session : session_of l.state ≡ Some s
-  pub told : IsPrefix (events_of log) (story s true (packets_of mark l.pieces) true)
+  pub told : IsPrefix (events_of log) (story s true (packets_of framing l.pieces) true)
   pub dialogue : Dialogue log
   pub echoed : AllEchoed log
 
@@ -98,28 +99,28 @@ only_session l k s u is has =
 the_link : (l : LinkRecord) (s : ℕ) → session_of l.state ≡ Some s → HasLink (l ∷ []) s l
 the_link l s is = record { at = 0; there = refl; session = is }
 
-pub orderly : (mark : List ℕ) (l : LinkRecord) (s : ℕ) (log : List (Given × Act)) (at_end : List Bool) → SaidOf l.state l.ip → IsTold mark l s log → ((e : Ended) → l.state ≡ Over e → slice_get at_end 0 ≡ Some true) → IsOrderly (core_terms mark) (one_link l log) at_end
-orderly mark l s log at_end said t ends =
+pub orderly : (framing : Framing) (l : LinkRecord) (s : ℕ) (log : List (Given × Act)) (at_end : List Bool) → SaidOf l.state l.ip → IsTold framing l s log → ((e : Ended) → l.state ≡ Over e → ShowsCause framing l.pieces (slice_get at_end 0) e.cause) → IsOrderly (core_terms framing) (one_link l log) at_end
+orderly framing l s log at_end said t ends =
     record {
       dialogues = λ k x there. subst Dialogue (sym (one_is log x k there)) t.dialogue;
       in_order = record {
         at_target = λ u k has x there.
             let e : k ≡ l = one_is l k has.at has.there in
-            let f : x ≡ log = one_is log x (target (core_terms mark) u) there in
+            let f : x ≡ log = one_is log x (target (core_terms framing) u) there in
             let g : u ≡ s = only_session l k s u t.session has in
-            rw (e, f, g) (told_in_order mark s l log t.told);
-        nowhere_else = λ u k has n x there other. absurd (other (one_at log x n there ∙ sym (one_target (core_terms mark) u refl)));
-        no_stranger = λ n x there u none. rw (one_is log x n there) (told_other s u (packets_of mark l.pieces) log t.told (λ e. none l (the_link l u (t.session ∙ ap Some e))));
+            rw (e, f, g) (told_in_order framing s l log t.told);
+        nowhere_else = λ u k has n x there other. absurd (other (one_at log x n there ∙ sym (one_target (core_terms framing) u refl)));
+        no_stranger = λ n x there u none. rw (one_is log x n there) (told_other s u (packets_of framing l.pieces) log t.told (λ e. none l (the_link l u (t.session ∙ ap Some e))));
       };
       causes = record {
-        peer_end = λ at k e there is why. rw (one_at l k at there) (ends e (ap (λ (x : LinkRecord). x.state) (sym (one_is l k at there)) ∙ is));
+        cause = λ at k e there is. rw (one_at l k at there, one_is l k at there) (ends e (ap (λ (x : LinkRecord). x.state) (sym (one_is l k at there)) ∙ is));
         sent = λ n x there u b has. sent_known u b (subst (λ (y : List (Given × Act)). HasAnswer y (Send u b) Sent) (one_is log x n there) has) (equal_or_not s u);
         refused = λ n x there u seen b has. absurd (never_refused x (subst AllEchoed (sym (one_is log x n there)) t.echoed) u seen b has);
-        own = λ u x there before behind given act b seen is own. never_refused_at x before behind (subst AllEchoed (sym (one_is log x (target (core_terms mark) u) there)) t.echoed) given act u seen b is;
+        own = λ u x there before behind given act b seen is own. never_refused_at x before behind (subst AllEchoed (sym (one_is log x (target (core_terms framing) u) there)) t.echoed) given act u seen b is;
       };
-      sessions = sessions_once mark l log said;
+      sessions = sessions_once framing l log said;
     }
   where
     sent_known : (u : ℕ) (b : List ℕ) → HasAnswer log (Send u b) Sent → (s ≡ u) ⊎ (¬ (s ≡ u)) → (k : LinkRecord) × HasLink (l ∷ []) u k
     sent_known u b has (inl e) = (l, the_link l u (t.session ∙ ap Some e))
-    sent_known u b has (inr n) = absurd (untold_silent log u t.echoed (told_other s u (packets_of mark l.pieces) log t.told n) b Sent has)
+    sent_known u b has (inr n) = absurd (untold_silent log u t.echoed (told_other s u (packets_of framing l.pieces) log t.told n) b Sent has)

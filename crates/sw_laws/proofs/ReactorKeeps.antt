@@ -1,17 +1,18 @@
 -- A reactor's turn keeps its law, whatever the pipe answers to what it asks for.
-use Rattle.std.proofs.Common.{◌≡◌, ℕ, ◌+◌, ◌-◌, ◌^◌, ◌<◌, ◌≤◌, ◌==◌, Bool, true, false, nat_lt, if◌then◌else◌, List, [], ◌∷◌, ◌++◌, length, take, refl, ap, ◌∙◌, sym, subst, append-nil, append_assoc, arith, Option, Some, None, slice_get, get_or, inl, inr, length-append, take_all}
+use Rattle.std.proofs.Common.{◌≡◌, ℕ, ◌+◌, ◌-◌, ◌^◌, ◌%◌, ◌<◌, ◌≤◌, ◌==◌, Bool, true, false, nat_lt, if◌then◌else◌, List, [], ◌∷◌, ◌++◌, length, take, refl, ap, ◌∙◌, sym, subst, append-nil, append_assoc, arith, Option, Some, None, slice_get, get_or, inl, inr, length-append, take_all}
 use Rattle.std.specs.List.{concat}
 use Rattle.std.proofs.lemmas.Option.{slice_get_within, slice_get-get_or}
 use Rattle.std.proofs.lemmas.List.{take-append-le}
 use Rattle.std.proofs.lemmas.Bool.{cases_lt}
 use Rattle.std.proofs.lemmas.Bool.Decides.{nat_tests}
 use Rattle.sw_data.specs.declared.ended.Cause.{Cause}
-use Rattle.sw_data.specs.declared.ended.Cause.TheVariants.{PeerEnd}
+use Rattle.sw_data.specs.declared.ended.Cause.TheVariants.{PeerEnd, TooLong, BadLength}
 use Rattle.sw_data.specs.declared.events.Event.{Event}
 use Rattle.sw_data.specs.declared.events.Event.TheVariants.{Connect, Packet, Closed}
 use Rattle.sw_data.specs.declared.messages.Msg.{Msg}
 use Rattle.sw_data.specs.declared.messages.Msg.TheVariants.{Fresh, Send, Bye, Event as EventMsg}
 use Rattle.sw_data.specs.declared.messages.Ask.TheVariants.{Take, Nothing as AskNothing, Rest}
+use Rattle.sw_frame.specs.declared.framing.Framing.{Framing}
 use Rattle.sw_frame.specs.Cut.{cut, IsFit}
 use Rattle.sw_frame.specs.Cutting.{cut_of, next_of}
 use Rattle.sw_frame.specs.declared.next.Next.{Next}
@@ -21,21 +22,21 @@ use Rattle.sw_link.specs.Script.{new_link}
 use Rattle.sw_link.specs.declared.link.LinkRead.{LinkRead}
 use Rattle.sw_link.specs.declared.link.LinkRead.TheVariants.{Got as ReadGot, NotYet, End as AtEnd}
 use Rattle.sw_record.specs.Logs.{session_in}
+use Rattle.sw_record.specs.Causes.{ShowsCause}
 use Rattle.sw_conn.specs.declared.conn.Conn.{Conn}
 use Rattle.sw_conn.specs.declared.conn.Asked.{Asked}
 use Rattle.sw_conn.specs.declared.conn.Asked.TheVariants.{Connect as AskedConnect, Packet as AskedPacket, Closed as AskedClosed}
 use Rattle.sw_conn.specs.declared.conn.Choice.{Choice}
 use Rattle.sw_conn.specs.declared.conn.Choice.TheVariants.{Push, Moved, Still, End}
-use Rattle.sw_conn.specs.Framed.{framing_of}
 use Rattle.sw_conn.specs.Conn.{noted, noted_as, returned, flushed, has_unsent, kind_of, choose, choose_by, choose_held, cut_as, read_as, read_choice, moved_by, Chosen, with_send, with_bye}
 use Rattle.sw_reactor.specs.declared.reactor.Over.{Over}
 use Rattle.sw_reactor.specs.declared.reactor.Reactor.{Reactor}
-use Rattle.sw_reactor.specs.Place.{worker_of, cause_of, ended_of}
+use Rattle.sw_reactor.specs.Place.{worker_of, ended_of}
 use Rattle.sw_reactor.specs.Reactor.{settled_msg, joined_conn, map_conn, served_choice, served_conn, served, chosen}
 use Rattle.sw_laws.specs.Messages.{fresh_in, fresh_of, IsOneFresh, behind_fresh, send_in, sends_in, bye_in}
 use Rattle.sw_laws.specs.Story.{story, packets_from, packets_of}
 use Rattle.sw_laws.specs.ReactorLaw.{told, HasCause, IsNext, HeldIsNext, IsBare, IsFed, IsServed, IsOver, Serves, Quiet, QuietAfter}
-use Rattle.sw_laws.proofs.Cuts.{packets_grow, next_is_packet, next_is_more}
+use Rattle.sw_laws.proofs.Cuts.{packets_grow, next_is_packet, next_is_more, next_is_too_long, next_is_bad_length}
 use Rattle.sw_laws.proofs.Messages.{fresh_in_more, behind_fresh_new, sends_more, byes_in_append, packets_next, IsOneFresh-fewer, AllNew-append_right}
 
 -- what the event that comes next makes of the story
@@ -59,31 +60,31 @@ false_unless true n = absurd (n refl)
 false_unless false n = refl
 
 -- the cutter cuts the link's pieces
-same_cut : (mark : List ℕ) (c : Conn) → IsBare mark c → (cut_of c.cutter).packets ≡ packets_of mark c.link.pieces
-same_cut mark c b = ap (λ f. (cut f c.cutter.pieces).packets) b.framed ∙ ap (λ ps. (cut (framing_of mark) ps).packets) b.fed
+same_cut : (framing : Framing) (c : Conn) → IsBare framing c → cut_of c.cutter ≡ cut framing c.link.pieces
+same_cut framing c b = ap (λ f. cut f c.cutter.pieces) b.framed ∙ ap (cut framing) b.fed
 
 -- what a push needs
-record IsReady (mark : List ℕ) (c : Conn) (e : Event) (taken : List (Msg Link ℕ)) (es : List Event) : Type 0 where
+record IsReady (framing : Framing) (c : Conn) (e : Event) (taken : List (Msg Link ℕ)) (es : List Event) : Type 0 where
   fed : IsFed c taken
-  bare : IsBare mark c
+  bare : IsBare framing c
   none : c.held ≡ None
-  next : IsNext mark c e
-  told_so : es ≡ told mark c
+  next : IsNext framing c e
+  told_so : es ≡ told framing c
   asked : c.asked ≡ kind_of e
 
 -- an event was pushed
-noted_keeps : (mark : List ℕ) (c : Conn) (taken : List (Msg Link ℕ)) (es : List Event) (e : Event) → IsFed c taken → IsBare mark c → c.held ≡ None → IsNext mark c e → es ≡ told mark c → IsServed mark (noted_as (kind_of e) c) taken (es ++ e ∷ [])
-noted_keeps mark c taken es (Connect s) f b none next t =
+noted_keeps : (framing : Framing) (c : Conn) (taken : List (Msg Link ℕ)) (es : List Event) (e : Event) → IsFed c taken → IsBare framing c → c.held ≡ None → IsNext framing c e → es ≡ told framing c → IsServed framing (noted_as (kind_of e) c) taken (es ++ e ∷ [])
+noted_keeps framing c taken es (Connect s) f b none next t =
     let u = b.unopened next.1 in
     record {
       fed = record { came = f.came; bytes = f.bytes; byes = f.byes };
       bare = record { framed = b.framed; fed = b.fed; few = b.few; unopened = λ f. absurd cc; closes_last = b.closes_last; ended = b.ended };
       held = rw none next.2;
-      told = rw (t, next.0) (story_connect c.session c.connected (packets_of mark c.link.pieces) c.dispatched c.closed next.1 u.0 u.1);
+      told = rw (t, next.0) (story_connect c.session c.connected (packets_of framing c.link.pieces) c.dispatched c.closed next.1 u.0 u.1);
     }
-noted_keeps mark c taken es (Packet s i p) f b none next t =
+noted_keeps framing c taken es (Packet s i p) f b none next t =
     let n = next.1 in
-    let ps : List (List ℕ) = packets_of mark c.link.pieces in
+    let ps : List (List ℕ) = packets_of framing c.link.pieces in
     let lt : c.dispatched < length ps = slice_get_within ps c.dispatched p n.cut in
     let open_still : c.closed ≡ false = false_unless c.closed (λ k. let w = b.closes_last k in let v : c.cause ≡ Some w.0 = w.1 in let u : c.cause ≡ None = n.going in cc) in
     rw n.room (record {
@@ -94,12 +95,12 @@ noted_keeps mark c taken es (Packet s i p) f b none next t =
         few = omega arith;
         unopened = λ g. absurd (let k : c.connected ≡ true = n.opened in cc);
         closes_last = b.closes_last;
-        ended = λ h. absurd (let v : c.cause ≡ Some h.0 = h.1 in let u : c.cause ≡ None = n.going in cc);
+        ended = λ k e. absurd (let v : c.cause ≡ Some k = e in let u : c.cause ≡ None = n.going in cc);
       };
       held = rw none n.given;
       told = rw (t, next.0, n.number) (story_packet c.session c.connected ps c.dispatched c.closed p n.opened open_still n.cut);
     })
-noted_keeps mark c taken es (Closed s) f b none next t =
+noted_keeps framing c taken es (Closed s) f b none next t =
     record {
       fed = record { came = f.came; bytes = f.bytes; byes = λ _ a. absurd cc };
       bare = record {
@@ -111,21 +112,21 @@ noted_keeps mark c taken es (Closed s) f b none next t =
         ended = b.ended;
       };
       held = rw none next.4;
-      told = rw (t, next.0) (story_closed c.session c.connected (take c.dispatched (packets_of mark c.link.pieces)) c.closed next.1 next.2);
+      told = rw (t, next.0) (story_closed c.session c.connected (take c.dispatched (packets_of framing c.link.pieces)) c.closed next.1 next.2);
     }
 
 -- an event came back
-returned_next : (mark : List ℕ) (c : Conn) (e : Event) → IsNext mark c e → IsNext mark (returned c e) e
-returned_next mark c (Connect s) n = n
-returned_next mark c (Packet s i p) n = (n.0, record { number = n.1.number; cut = n.1.cut; opened = n.1.opened; going = n.1.going; given = n.1.given; room = n.1.room })
-returned_next mark c (Closed s) n = n
+returned_next : (framing : Framing) (c : Conn) (e : Event) → IsNext framing c e → IsNext framing (returned c e) e
+returned_next framing c (Connect s) n = n
+returned_next framing c (Packet s i p) n = (n.0, record { number = n.1.number; cut = n.1.cut; opened = n.1.opened; going = n.1.going; given = n.1.given; room = n.1.room })
+returned_next framing c (Closed s) n = n
 
-returned_keeps : (mark : List ℕ) (c : Conn) (taken : List (Msg Link ℕ)) (es : List Event) (e : Event) → IsFed c taken → IsBare mark c → IsNext mark c e → es ≡ told mark c → IsServed mark (returned c e) taken es
-returned_keeps mark c taken es e f b next t =
+returned_keeps : (framing : Framing) (c : Conn) (taken : List (Msg Link ℕ)) (es : List Event) (e : Event) → IsFed c taken → IsBare framing c → IsNext framing c e → es ≡ told framing c → IsServed framing (returned c e) taken es
+returned_keeps framing c taken es e f b next t =
     record {
       fed = record { came = f.came; bytes = f.bytes; byes = f.byes };
       bare = record { framed = b.framed; fed = b.fed; few = b.few; unopened = b.unopened; closes_last = b.closes_last; ended = b.ended };
-      held = returned_next mark c e next;
+      held = returned_next framing c e next;
       told = t;
     }
 
@@ -139,14 +140,14 @@ fed_taken c taken k f = record { came = f.came; bytes = f.bytes; byes = f.byes }
 fed_given : (c : Conn) (taken : List (Msg Link ℕ)) (k : Asked) → IsFed c taken → IsFed (record c { asked = k; cutter = record c.cutter { given = c.cutter.given + 1 } }) taken
 fed_given c taken k f = record { came = f.came; bytes = f.bytes; byes = f.byes }
 
-bare_asked : (mark : List ℕ) (c : Conn) (k : Asked) → IsBare mark c → IsBare mark (record c { asked = k })
-bare_asked mark c k b = record { framed = b.framed; fed = b.fed; few = b.few; unopened = b.unopened; closes_last = b.closes_last; ended = b.ended }
+bare_asked : (framing : Framing) (c : Conn) (k : Asked) → IsBare framing c → IsBare framing (record c { asked = k })
+bare_asked framing c k b = record { framed = b.framed; fed = b.fed; few = b.few; unopened = b.unopened; closes_last = b.closes_last; ended = b.ended }
 
-bare_taken : (mark : List ℕ) (c : Conn) (k : Asked) → IsBare mark c → IsBare mark (record c { held = None; asked = k })
-bare_taken mark c k b = record { framed = b.framed; fed = b.fed; few = b.few; unopened = b.unopened; closes_last = b.closes_last; ended = b.ended }
+bare_taken : (framing : Framing) (c : Conn) (k : Asked) → IsBare framing c → IsBare framing (record c { held = None; asked = k })
+bare_taken framing c k b = record { framed = b.framed; fed = b.fed; few = b.few; unopened = b.unopened; closes_last = b.closes_last; ended = b.ended }
 
-bare_given : (mark : List ℕ) (c : Conn) (k : Asked) → IsBare mark c → IsBare mark (record c { asked = k; cutter = record c.cutter { given = c.cutter.given + 1 } })
-bare_given mark c k b = record { framed = b.framed; fed = b.fed; few = b.few; unopened = b.unopened; closes_last = b.closes_last; ended = b.ended }
+bare_given : (framing : Framing) (c : Conn) (k : Asked) → IsBare framing c → IsBare framing (record c { asked = k; cutter = record c.cutter { given = c.cutter.given + 1 } })
+bare_given framing c k b = record { framed = b.framed; fed = b.fed; few = b.few; unopened = b.unopened; closes_last = b.closes_last; ended = b.ended }
 
 -- what is held stays next where the law sees no change
 record SameNext (c d : Conn) : Type 0 where
@@ -158,9 +159,9 @@ record SameNext (c d : Conn) : Type 0 where
   cause : d.cause ≡ c.cause
   closed : d.closed ≡ c.closed
 
-same_next : (mark : List ℕ) (c d : Conn) → SameNext c d → (e : Event) → IsNext mark c e → IsNext mark d e
-same_next mark c d x (Connect s) n = (n.0 ∙ sym x.session, x.connected ∙ n.1, x.given ∙ n.2 ∙ sym x.dispatched)
-same_next mark c d x (Packet s i p) n = (
+same_next : (framing : Framing) (c d : Conn) → SameNext c d → (e : Event) → IsNext framing c e → IsNext framing d e
+same_next framing c d x (Connect s) n = (n.0 ∙ sym x.session, x.connected ∙ n.1, x.given ∙ n.2 ∙ sym x.dispatched)
+same_next framing c d x (Packet s i p) n = (
   n.0 ∙ sym x.session,
   record {
     number = n.1.number ∙ sym x.dispatched;
@@ -171,52 +172,59 @@ same_next mark c d x (Packet s i p) n = (
     room = rw x.dispatched n.1.room;
   },
 )
-same_next mark c d x (Closed s) n = (n.0 ∙ sym x.session, x.connected ∙ n.1, x.closed ∙ n.2, (n.3.0, x.cause ∙ n.3.1), x.given ∙ n.4 ∙ sym x.dispatched)
+same_next framing c d x (Closed s) n = (n.0 ∙ sym x.session, x.connected ∙ n.1, x.closed ∙ n.2, (n.3.0, x.cause ∙ n.3.1), x.given ∙ n.4 ∙ sym x.dispatched)
 
-same_held : (mark : List ℕ) (c d : Conn) → SameNext c d → (h : Option Event) → HeldIsNext mark c h → HeldIsNext mark d h
-same_held mark c d x None n = x.given ∙ n ∙ sym x.dispatched
-same_held mark c d x (Some e) n = same_next mark c d x e n
+same_held : (framing : Framing) (c d : Conn) → SameNext c d → (h : Option Event) → HeldIsNext framing c h → HeldIsNext framing d h
+same_held framing c d x None n = x.given ∙ n ∙ sym x.dispatched
+same_held framing c d x (Some e) n = same_next framing c d x e n
 
-flushed_keeps : (mark : List ℕ) (c : Conn) (taken : List (Msg Link ℕ)) (es : List Event) → IsServed mark c taken es → IsServed mark (flushed c) taken es
-flushed_keeps mark c taken es s =
+flushed_keeps : (framing : Framing) (c : Conn) (taken : List (Msg Link ℕ)) (es : List Event) → IsServed framing c taken es → IsServed framing (flushed c) taken es
+flushed_keeps framing c taken es s =
     let b = s.bare in
     record {
       fed = record { came = s.fed.came; bytes = append-nil (c.link.written ++ c.unsent) ∙ s.fed.bytes; byes = s.fed.byes };
       bare = record { framed = b.framed; fed = b.fed; few = b.few; unopened = b.unopened; closes_last = b.closes_last; ended = b.ended };
-      held = same_held mark c (flushed c) (record { session = refl; connected = refl; given = refl; dispatched = refl; pieces = refl; cause = refl; closed = refl }) c.held s.held;
+      held = same_held framing c (flushed c) (record { session = refl; connected = refl; given = refl; dispatched = refl; pieces = refl; cause = refl; closed = refl }) c.held s.held;
       told = s.told;
     }
 
 -- nothing held, so as many packets were given as dispatched
-given_is : (mark : List ℕ) (c : Conn) (taken : List (Msg Link ℕ)) (es : List Event) → IsServed mark c taken es → c.held ≡ None → c.cutter.given ≡ c.dispatched
-given_is mark c taken es s none = rw none at s.held
+given_is : (framing : Framing) (c : Conn) (taken : List (Msg Link ℕ)) (es : List Event) → IsServed framing c taken es → c.held ≡ None → c.cutter.given ≡ c.dispatched
+given_is framing c taken es s none = rw none at s.held
 
 take_front : (n : ℕ) (xs ys zs : List (List ℕ)) → xs ++ ys ≡ zs → n ≤ length xs → take n zs ≡ take n xs
 take_front n xs ys zs e le = ap (take n) (sym e) ∙ take-append-le n xs ys le
 
+-- all packets were dispatched where no more were cut than given
+last_place : (n : ℕ) (ps : List (List ℕ)) → n ≤ length ps → slice_get ps n ≡ None → n ≡ length ps
+last_place n ps le e = elim (cases_lt n (length ps)) [ inl lt ↦ absurd (let v : slice_get ps n ≡ Some (get_or ps n []) = slice_get-get_or ps n [] lt in cc) | inr ge ↦ omega arith ]
+
+all_cut : (framing : Framing) (c : Conn) → IsBare framing c → c.cutter.given ≡ c.dispatched → slice_get (cut_of c.cutter).packets c.cutter.given ≡ None → c.dispatched ≡ length (packets_of framing c.link.pieces)
+all_cut framing c b g last = last_place c.dispatched (packets_of framing c.link.pieces) b.few (rw (same_cut framing c b, g) at last)
+
 -- a read
-read_keeps : (mark : List ℕ) → IsFit (framing_of mark) → (c : Conn) (taken : List (Msg Link ℕ)) (es : List Event) (read : LinkRead) → IsServed mark c taken es → c.held ≡ None → c.cause ≡ None → next_of c.cutter ≡ next.More → IsServed mark (read_as c read) taken es
-read_keeps mark fit c taken es (ReadGot p) s none going more =
+read_keeps : (framing : Framing) → IsFit framing → (c : Conn) (taken : List (Msg Link ℕ)) (es : List Event) (read : LinkRead) → IsServed framing c taken es → c.held ≡ None → c.cause ≡ None → next_of c.cutter ≡ next.More → IsServed framing (read_as c read) taken es
+read_keeps framing fit c taken es (ReadGot p) s none going more =
     let b = s.bare in
-    let g : c.cutter.given ≡ c.dispatched = given_is mark c taken es s none in
-    let grow = packets_grow mark fit c.link.pieces p in
+    let g : c.cutter.given ≡ c.dispatched = given_is framing c taken es s none in
+    let grow = packets_grow framing fit c.link.pieces p in
     record {
       fed = record { came = s.fed.came; bytes = s.fed.bytes; byes = s.fed.byes };
       bare = record {
         framed = b.framed;
         fed = ap (λ ps. ps ++ p ∷ []) b.fed;
-        few = omega (arith, b.few, length-append (packets_of mark c.link.pieces) grow.0, ap length grow.1);
+        few = omega (arith, b.few, length-append (packets_of framing c.link.pieces) grow.0, ap length grow.1);
         unopened = b.unopened;
         closes_last = b.closes_last;
-        ended = λ h. absurd (let v : c.cause ≡ Some h.0 = h.1 in cc);
+        ended = λ k e. absurd (let v : c.cause ≡ Some k = e in cc);
       };
       held = rw none g;
-      told = s.told ∙ ap (λ ps. story c.session c.connected ps c.closed) (sym (take_front c.dispatched (packets_of mark c.link.pieces) grow.0 (packets_of mark (c.link.pieces ++ p ∷ [])) grow.1 b.few));
+      told = s.told ∙ ap (λ ps. story c.session c.connected ps c.closed) (sym (take_front c.dispatched (packets_of framing c.link.pieces) grow.0 (packets_of framing (c.link.pieces ++ p ∷ [])) grow.1 b.few));
     }
-read_keeps mark fit c taken es NotYet s none going more = s
-read_keeps mark fit c taken es AtEnd s none going more =
+read_keeps framing fit c taken es NotYet s none going more = s
+read_keeps framing fit c taken es AtEnd s none going more =
     let b = s.bare in
-    let g : c.cutter.given ≡ c.dispatched = given_is mark c taken es s none in
+    let g : c.cutter.given ≡ c.dispatched = given_is framing c taken es s none in
     record {
       fed = record { came = s.fed.came; bytes = s.fed.bytes; byes = s.fed.byes };
       bare = record {
@@ -225,22 +233,44 @@ read_keeps mark fit c taken es AtEnd s none going more =
         few = b.few;
         unopened = b.unopened;
         closes_last = λ _. (PeerEnd, refl);
-        ended = λ _. (all_cut c.dispatched (packets_of mark c.link.pieces) b.few (rw (same_cut mark c b, g) at (next_is_more c.cutter more)), refl);
+        ended = λ k e. (
+          all_cut framing c b g (next_is_more c.cutter more),
+          let same : PeerEnd ≡ k = cc in subst (λ (x : Cause). ShowsCause framing c.link.pieces (Some true) x) same refl,
+        );
       };
       held = rw none g;
       told = s.told;
     }
-  where
-    all_cut : (n : ℕ) (ps : List (List ℕ)) → n ≤ length ps → slice_get ps n ≡ None → n ≡ length ps
-    all_cut n ps le e = elim (cases_lt n (length ps)) [ inl lt ↦ absurd (let v : slice_get ps n ≡ Some (get_or ps n []) = slice_get-get_or ps n [] lt in cc) | inr ge ↦ omega arith ]
+
+-- a fault behind the last packet
+fault_keeps : (framing : Framing) (c : Conn) (taken : List (Msg Link ℕ)) (es : List Event) (why : Cause) → IsServed framing c taken es → c.held ≡ None → slice_get (cut_of c.cutter).packets c.cutter.given ≡ None → ShowsCause framing c.link.pieces (Some c.link.at_end) why → IsServed framing (record c { cause = Some why }) taken es
+fault_keeps framing c taken es why s none last shown =
+    let b = s.bare in
+    let g : c.cutter.given ≡ c.dispatched = given_is framing c taken es s none in
+    record {
+      fed = record { came = s.fed.came; bytes = s.fed.bytes; byes = s.fed.byes };
+      bare = record {
+        framed = b.framed;
+        fed = b.fed;
+        few = b.few;
+        unopened = b.unopened;
+        closes_last = λ _. (why, refl);
+        ended = λ k e. (
+          all_cut framing c b g last,
+          let same : why ≡ k = cc in subst (λ (x : Cause). ShowsCause framing c.link.pieces (Some c.link.at_end) x) same shown,
+        );
+      };
+      held = rw none g;
+      told = s.told;
+    }
 
 -- what holds of the connection alone holds of the reactor's part
 abbrev HasConn : Reactor → List (Msg Link ℕ) → List Event → Conn → Type 0
-HasConn r taken es c = IsOneFresh taken → Serves r.mark (Some c) r.over taken es
+HasConn r taken es c = IsOneFresh taken → Serves r.framing (Some c) r.over taken es
 
-serves_conn : (mark : List ℕ) (c d : Conn) (over : Option Over) (taken : List (Msg Link ℕ)) (es fs : List Event) → Serves mark (Some c) over taken es → (IsServed mark c taken es → IsServed mark d taken fs) → Serves mark (Some d) over taken fs
-serves_conn mark c d None taken es fs s f = f s
-serves_conn mark c d (Some o) taken es fs s f = absurd s
+serves_conn : (framing : Framing) (c d : Conn) (over : Option Over) (taken : List (Msg Link ℕ)) (es fs : List Event) → Serves framing (Some c) over taken es → (IsServed framing c taken es → IsServed framing d taken fs) → Serves framing (Some d) over taken fs
+serves_conn framing c d None taken es fs s f = f s
+serves_conn framing c d (Some o) taken es fs s f = absurd s
 
 -- what a connection's serve leaves, whatever the pipe answers to what it asked for
 abbrev Keeps : Reactor → List (Msg Link ℕ) → List Event → Conn → Choice → Bool → Type 0
@@ -249,22 +279,22 @@ Keeps r taken es d choice reads = QuietAfter (served_choice r d choice reads).re
 abbrev Kept : Reactor → List (Msg Link ℕ) → List Event → Chosen → Type 0
 Kept r taken es d = Keeps r taken es d.conn d.choice d.reads
 
-next_session : (mark : List ℕ) (c : Conn) (e : Event) → IsNext mark c e → c.session ≡ session_in e
-next_session mark c (Connect s) n = sym n.0
-next_session mark c (Packet s i p) n = sym n.0
-next_session mark c (Closed s) n = sym n.0
+next_session : (framing : Framing) (c : Conn) (e : Event) → IsNext framing c e → c.session ≡ session_in e
+next_session framing c (Connect s) n = sym n.0
+next_session framing c (Packet s i p) n = sym n.0
+next_session framing c (Closed s) n = sym n.0
 
-target_is : (mark : List ℕ) (c d : Conn) (e : Event) (over : Option Over) (taken : List (Msg Link ℕ)) (es : List Event) → Serves mark (Some c) over taken es → (IsServed mark c taken es → IsReady mark d e taken es) → worker_of d.session ≡ worker_of (session_in e)
-target_is mark c d e None taken es s ready = ap worker_of (next_session mark d e (ready s).next)
-target_is mark c d e (Some o) taken es s ready = absurd s
+target_is : (framing : Framing) (c d : Conn) (e : Event) (over : Option Over) (taken : List (Msg Link ℕ)) (es : List Event) → Serves framing (Some c) over taken es → (IsServed framing c taken es → IsReady framing d e taken es) → worker_of d.session ≡ worker_of (session_in e)
+target_is framing c d e None taken es s ready = ap worker_of (next_session framing d e (ready s).next)
+target_is framing c d e (Some o) taken es s ready = absurd s
 
-push_keeps : (r : Reactor) (taken : List (Msg Link ℕ)) (es : List Event) (c d : Conn) (e : Event) → HasConn r taken es c → (IsServed r.mark c taken es → IsReady r.mark d e taken es) → (reads : Bool) → Keeps r taken es d (Push e) reads
+push_keeps : (r : Reactor) (taken : List (Msg Link ℕ)) (es : List Event) (c d : Conn) (e : Event) → HasConn r taken es c → (IsServed r.framing c taken es → IsReady r.framing d e taken es) → (reads : Bool) → Keeps r taken es d (Push e) reads
 push_keeps r taken es c d e has ready reads = (
-  (λ one. target_is r.mark c d e r.over taken es (has one) ready),
-  (λ one. serves_conn r.mark c (noted d) r.over taken es (es ++ e ∷ []) (has one)
-      (λ s. let y = ready s in subst (λ k. IsServed r.mark (noted_as k d) taken (es ++ e ∷ [])) (sym y.asked) (noted_keeps r.mark d taken es e y.fed y.bare y.none y.next y.told_so))),
-  (λ one. serves_conn r.mark c (returned d e) r.over taken es es (has one)
-      (λ s. let y = ready s in returned_keeps r.mark d taken es e y.fed y.bare y.next y.told_so)),
+  (λ one. target_is r.framing c d e r.over taken es (has one) ready),
+  (λ one. serves_conn r.framing c (noted d) r.over taken es (es ++ e ∷ []) (has one)
+      (λ s. let y = ready s in subst (λ k. IsServed r.framing (noted_as k d) taken (es ++ e ∷ [])) (sym y.asked) (noted_keeps r.framing d taken es e y.fed y.bare y.none y.next y.told_so))),
+  (λ one. serves_conn r.framing c (returned d e) r.over taken es es (has one)
+      (λ s. let y = ready s in returned_keeps r.framing d taken es e y.fed y.bare y.next y.told_so)),
 )
 
 still_keeps : (r : Reactor) (taken : List (Msg Link ℕ)) (es : List Event) (d : Conn) → HasConn r taken es d → (reads : Bool) → Keeps r taken es d Still reads
@@ -284,23 +314,23 @@ moved_keeps r taken es d reads true Still k = moved_still r.empty k
 moved_keeps r taken es d reads wrote End k = k
 
 -- the connection leaves
-cause_is : (o : Option Cause) (k : Cause) → o ≡ Some k → cause_of o ≡ PeerEnd
-cause_is (Some PeerEnd) k e = refl
-cause_is None k e = absurd cc
+over_said : (c : Conn) (n : ℕ) (why : Cause) → c.dispatched ≡ n → c.cause ≡ Some why → ended_of c ≡ record { session = Some c.session; fd = c.session % 1024; ip = c.ip; uid = 0; dispatched = n; split = n; cause = why }
+over_said c n why d e = rw (d, e) refl
 
-over_keeps : (mark : List ℕ) (c : Conn) (taken : List (Msg Link ℕ)) (es : List Event) → c.unsent ≡ [] → c.closed ≡ true → c.awaiting ≡ false → IsServed mark c taken es → IsOver mark (record { link = c.link; ended = ended_of c }) taken es
-over_keeps mark c taken es sent closed done s =
+over_keeps : (framing : Framing) (c : Conn) (taken : List (Msg Link ℕ)) (es : List Event) → c.unsent ≡ [] → c.closed ≡ true → c.awaiting ≡ false → IsServed framing c taken es → IsOver framing (record { link = c.link; ended = ended_of c }) taken es
+over_keeps framing c taken es sent closed done s =
     let b = s.bare in
     let why = b.closes_last closed in
-    let all = b.ended why in
+    let all = b.ended why.0 why.1 in
     let opened : c.connected ≡ true = true_unless c.connected (λ f. let g : c.closed ≡ false = (b.unopened f).1 in cc) in
     record {
       session = c.session;
       ip = c.ip;
+      cause = why.0;
       came = s.fed.came;
-      said = rw (all.0, cause_is c.cause why.0 why.1) refl;
-      at_end = all.1;
-      told = s.told ∙ rw (opened, closed, all.0) (ap (λ ps. story c.session true ps true) (take_all (length (packets_of mark c.link.pieces)) (packets_of mark c.link.pieces) (omega arith)));
+      said = over_said c (length (packets_of framing c.link.pieces)) why.0 all.0 why.1;
+      why = all.1;
+      told = s.told ∙ rw (opened, closed, all.0) (ap (λ ps. story c.session true ps true) (take_all (length (packets_of framing c.link.pieces)) (packets_of framing c.link.pieces) (omega arith)));
       until = taken;
       later = [];
       split = sym (append-nil taken);
@@ -308,24 +338,24 @@ over_keeps mark c taken es sent closed done s =
       byes = s.fed.byes closed done;
     }
 
-serves_over : (mark : List ℕ) (c : Conn) (over : Option Over) (taken : List (Msg Link ℕ)) (es : List Event) → Serves mark (Some c) over taken es → (IsServed mark c taken es → IsOver mark (record { link = c.link; ended = ended_of c }) taken es) → Serves mark None (Some (record { link = c.link; ended = ended_of c })) taken es
-serves_over mark c None taken es s f = f s
-serves_over mark c (Some o) taken es s f = absurd s
+serves_over : (framing : Framing) (c : Conn) (over : Option Over) (taken : List (Msg Link ℕ)) (es : List Event) → Serves framing (Some c) over taken es → (IsServed framing c taken es → IsOver framing (record { link = c.link; ended = ended_of c }) taken es) → Serves framing None (Some (record { link = c.link; ended = ended_of c })) taken es
+serves_over framing c None taken es s f = f s
+serves_over framing c (Some o) taken es s f = absurd s
 
 -- the moves of a connection whose bytes were all written
-cut_keeps : (r : Reactor) → IsFit (framing_of r.mark) → (taken : List (Msg Link ℕ)) (es : List Event) (c : Conn) (read : LinkRead) → HasConn r taken es c → c.held ≡ None → c.connected ≡ true → c.cause ≡ None → nat_lt c.dispatched (2 ^ 64 - 1) ≡ true → (n : Next) → next_of c.cutter ≡ n → Kept r taken es (cut_as c read n)
+cut_keeps : (r : Reactor) → IsFit r.framing → (taken : List (Msg Link ℕ)) (es : List Event) (c : Conn) (read : LinkRead) → HasConn r taken es c → c.held ≡ None → c.connected ≡ true → c.cause ≡ None → nat_lt c.dispatched (2 ^ 64 - 1) ≡ true → (n : Next) → next_of c.cutter ≡ n → Kept r taken es (cut_as c read n)
 cut_keeps r fit taken es c read has none opened going room (next.Packet p) is =
     push_keeps r taken es c (record c { asked = AskedPacket; cutter = record c.cutter { given = c.cutter.given + 1 } }) (Packet c.session c.dispatched p) has
-    (λ s. let g = given_is r.mark c taken es s none in
+    (λ s. let g = given_is r.framing c taken es s none in
     record {
       fed = fed_given c taken AskedPacket s.fed;
-      bare = bare_given r.mark c AskedPacket s.bare;
+      bare = bare_given r.framing c AskedPacket s.bare;
       none = none;
       next = (
         refl,
         record {
           number = refl;
-          cut = rw (same_cut r.mark c s.bare, g) at (next_is_packet c.cutter p is);
+          cut = rw (same_cut r.framing c s.bare, g) at (next_is_packet c.cutter p is);
           opened = opened;
           going = going;
           given = ap (λ n. n + 1) g;
@@ -335,69 +365,72 @@ cut_keeps r fit taken es c read has none opened going room (next.Packet p) is =
       told_so = s.told;
       asked = refl;
     }) false
-cut_keeps r fit taken es c read has none opened going room next.More is = read_choice_keeps r taken es c read (λ one. serves_conn r.mark c (read_as c read) r.over taken es es (has one) (λ s. read_keeps r.mark fit c taken es read s none going is))
+cut_keeps r fit taken es c read has none opened going room next.More is = read_choice_keeps r taken es c read (λ one. serves_conn r.framing c (read_as c read) r.over taken es es (has one) (λ s. read_keeps r.framing fit c taken es read s none going is))
   where
     read_choice_keeps : (r : Reactor) (taken : List (Msg Link ℕ)) (es : List Event) (c : Conn) (read : LinkRead) → HasConn r taken es (read_as c read) → Keeps r taken es (read_as c read) (read_choice read) true
     read_choice_keeps r taken es c (ReadGot p) h = h
     read_choice_keeps r taken es c NotYet h = still_keeps r taken es c h true
     read_choice_keeps r taken es c AtEnd h = h
-cut_keeps r fit taken es c read has none opened going room (next.TooLong n) is = still_keeps r taken es c has false
-cut_keeps r fit taken es c read has none opened going room (next.BadLength n) is = still_keeps r taken es c has false
+cut_keeps r fit taken es c read has none opened going room (next.TooLong n) is = λ one. serves_conn r.framing c (record c { cause = Some (TooLong n) }) r.over taken es es (has one)
+    (λ s. let x = next_is_too_long c.cutter n is in fault_keeps r.framing c taken es (TooLong n) s none x.0 (rw (same_cut r.framing c s.bare) at x.1))
+cut_keeps r fit taken es c read has none opened going room (next.BadLength n) is = λ one. serves_conn r.framing c (record c { cause = Some (BadLength n) }) r.over taken es es (has one)
+    (λ s. let x = next_is_bad_length c.cutter n is in fault_keeps r.framing c taken es (BadLength n) s none x.0 (rw (same_cut r.framing c s.bare) at x.1))
 cut_keeps r fit taken es c read has none opened going room next.OutOfMemory is = still_keeps r taken es c has false
 
 awaiting_keeps : (r : Reactor) (taken : List (Msg Link ℕ)) (es : List Event) (c : Conn) → HasConn r taken es c → c.unsent ≡ [] → c.closed ≡ true → (t : Bool) → c.awaiting ≡ t → Kept r taken es (record { conn = c; choice = (if t then Still else End); reads = false })
 awaiting_keeps r taken es c has sent closed true is = still_keeps r taken es c has false
-awaiting_keeps r taken es c has sent closed false is = λ one. serves_over r.mark c r.over taken es (has one) (over_keeps r.mark c taken es sent closed is)
+awaiting_keeps r taken es c has sent closed false is = λ one. serves_over r.framing c r.over taken es (has one) (over_keeps r.framing c taken es sent closed is)
 
 finish_keeps : (r : Reactor) (taken : List (Msg Link ℕ)) (es : List Event) (c : Conn) → HasConn r taken es c → c.unsent ≡ [] → c.held ≡ None → c.connected ≡ true → HasCause c → (t : Bool) → c.closed ≡ t → Kept r taken es (if t then record { conn = c; choice = (if c.awaiting then Still else End); reads = false } else record { conn = record c { asked = AskedClosed }; choice = Push (Closed c.session); reads = false })
 finish_keeps r taken es c has sent none opened why true is = awaiting_keeps r taken es c has sent is c.awaiting refl
 finish_keeps r taken es c has sent none opened why false is =
     push_keeps r taken es c (record c { asked = AskedClosed }) (Closed c.session) has
-    (λ s. record { fed = fed_asked c taken AskedClosed s.fed; bare = bare_asked r.mark c AskedClosed s.bare; none = none; next = (refl, opened, is, why, given_is r.mark c taken es s none); told_so = s.told; asked = refl }) false
+    (λ s. record { fed = fed_asked c taken AskedClosed s.fed; bare = bare_asked r.framing c AskedClosed s.bare; none = none; next = (refl, opened, is, why, given_is r.framing c taken es s none); told_so = s.told; asked = refl }) false
 
-room_keeps : (r : Reactor) → IsFit (framing_of r.mark) → (taken : List (Msg Link ℕ)) (es : List Event) (c : Conn) (read : LinkRead) → HasConn r taken es c → c.held ≡ None → c.connected ≡ true → c.cause ≡ None → (t : Bool) → nat_lt c.dispatched (2 ^ 64 - 1) ≡ t → Kept r taken es (if t then cut_as c read (next_of c.cutter) else record { conn = c; choice = Still; reads = false })
+room_keeps : (r : Reactor) → IsFit r.framing → (taken : List (Msg Link ℕ)) (es : List Event) (c : Conn) (read : LinkRead) → HasConn r taken es c → c.held ≡ None → c.connected ≡ true → c.cause ≡ None → (t : Bool) → nat_lt c.dispatched (2 ^ 64 - 1) ≡ t → Kept r taken es (if t then cut_as c read (next_of c.cutter) else record { conn = c; choice = Still; reads = false })
 room_keeps r fit taken es c read has none opened going true is = cut_keeps r fit taken es c read has none opened going is (next_of c.cutter) refl
 room_keeps r fit taken es c read has none opened going false is = still_keeps r taken es c has false
 
-cause_keeps : (r : Reactor) → IsFit (framing_of r.mark) → (taken : List (Msg Link ℕ)) (es : List Event) (c : Conn) (read : LinkRead) → HasConn r taken es c → c.unsent ≡ [] → c.held ≡ None → c.connected ≡ true → (o : Option Cause) → c.cause ≡ o → Kept r taken es (choose_by c read o)
+cause_keeps : (r : Reactor) → IsFit r.framing → (taken : List (Msg Link ℕ)) (es : List Event) (c : Conn) (read : LinkRead) → HasConn r taken es c → c.unsent ≡ [] → c.held ≡ None → c.connected ≡ true → (o : Option Cause) → c.cause ≡ o → Kept r taken es (choose_by c read o)
 cause_keeps r fit taken es c read has sent none opened (Some k) is = finish_keeps r taken es c has sent none opened (k, is) c.closed refl
 cause_keeps r fit taken es c read has sent none opened None is = room_keeps r fit taken es c read has none opened is (nat_lt c.dispatched (2 ^ 64 - 1)) refl
 
-opened_keeps : (r : Reactor) → IsFit (framing_of r.mark) → (taken : List (Msg Link ℕ)) (es : List Event) (c : Conn) (read : LinkRead) → HasConn r taken es c → c.unsent ≡ [] → c.held ≡ None → (t : Bool) → c.connected ≡ t → Kept r taken es (if t then choose_by c read c.cause else record { conn = record c { asked = AskedConnect }; choice = Push (Connect c.session); reads = false })
+opened_keeps : (r : Reactor) → IsFit r.framing → (taken : List (Msg Link ℕ)) (es : List Event) (c : Conn) (read : LinkRead) → HasConn r taken es c → c.unsent ≡ [] → c.held ≡ None → (t : Bool) → c.connected ≡ t → Kept r taken es (if t then choose_by c read c.cause else record { conn = record c { asked = AskedConnect }; choice = Push (Connect c.session); reads = false })
 opened_keeps r fit taken es c read has sent none true is = cause_keeps r fit taken es c read has sent none is c.cause refl
 opened_keeps r fit taken es c read has sent none false is =
     push_keeps r taken es c (record c { asked = AskedConnect }) (Connect c.session) has
-    (λ s. record { fed = fed_asked c taken AskedConnect s.fed; bare = bare_asked r.mark c AskedConnect s.bare; none = none; next = (refl, is, given_is r.mark c taken es s none); told_so = s.told; asked = refl }) false
+    (λ s. record { fed = fed_asked c taken AskedConnect s.fed; bare = bare_asked r.framing c AskedConnect s.bare; none = none; next = (refl, is, given_is r.framing c taken es s none); told_so = s.told; asked = refl }) false
 
-taken_next : (mark : List ℕ) (c : Conn) (k : Asked) (e : Event) → IsNext mark c e → IsNext mark (record c { held = None; asked = k }) e
-taken_next mark c k e n = same_next mark c (record c { held = None; asked = k }) (record { session = refl; connected = refl; given = refl; dispatched = refl; pieces = refl; cause = refl; closed = refl }) e n
+taken_next : (framing : Framing) (c : Conn) (k : Asked) (e : Event) → IsNext framing c e → IsNext framing (record c { held = None; asked = k }) e
+taken_next framing c k e n = same_next framing c (record c { held = None; asked = k }) (record { session = refl; connected = refl; given = refl; dispatched = refl; pieces = refl; cause = refl; closed = refl }) e n
 
-held_keeps : (r : Reactor) → IsFit (framing_of r.mark) → (taken : List (Msg Link ℕ)) (es : List Event) (c : Conn) (read : LinkRead) → HasConn r taken es c → c.unsent ≡ [] → (h : Option Event) → c.held ≡ h → Kept r taken es (choose_held c read h)
+held_keeps : (r : Reactor) → IsFit r.framing → (taken : List (Msg Link ℕ)) (es : List Event) (c : Conn) (read : LinkRead) → HasConn r taken es c → c.unsent ≡ [] → (h : Option Event) → c.held ≡ h → Kept r taken es (choose_held c read h)
 held_keeps r fit taken es c read has sent (Some e) is =
     push_keeps r taken es c (record c { held = None; asked = kind_of e }) e has
-    (λ s. record { fed = fed_taken c taken (kind_of e) s.fed; bare = bare_taken r.mark c (kind_of e) s.bare; none = refl; next = taken_next r.mark c (kind_of e) e (subst (λ (h : Option Event). HeldIsNext r.mark c h) is s.held); told_so = s.told; asked = refl }) false
+    (λ s. record { fed = fed_taken c taken (kind_of e) s.fed; bare = bare_taken r.framing c (kind_of e) s.bare; none = refl; next = taken_next r.framing c (kind_of e) e (subst (λ (h : Option Event). HeldIsNext r.framing c h) is s.held); told_so = s.told; asked = refl }) false
 held_keeps r fit taken es c read has sent None is = opened_keeps r fit taken es c read has sent is c.connected refl
 
 -- a serve
-served_keeps : (r : Reactor) → IsFit (framing_of r.mark) → (taken : List (Msg Link ℕ)) (es : List Event) (read : LinkRead) (h : Option Conn) → (IsOneFresh taken → Serves r.mark h r.over taken es) → r.conn ≡ h → QuietAfter (served_conn r read h).reactor (served_conn r read h).ask taken es
+served_keeps : (r : Reactor) → IsFit r.framing → (taken : List (Msg Link ℕ)) (es : List Event) (read : LinkRead) (h : Option Conn) → (IsOneFresh taken → Serves r.framing h r.over taken es) → r.conn ≡ h → QuietAfter (served_conn r read h).reactor (served_conn r read h).ask taken es
 served_keeps r fit taken es read None q is = λ one. rw is (q one)
 served_keeps r fit taken es read (Some c) q is =
     let d : Chosen = choose (flushed c) read in
     moved_keeps r taken es d.conn d.reads (has_unsent c.unsent) d.choice
-    (held_keeps r fit taken es (flushed c) read (λ one. serves_conn r.mark c (flushed c) r.over taken es es (q one) (flushed_keeps r.mark c taken es)) refl (flushed c).held refl)
+    (held_keeps r fit taken es (flushed c) read (λ one. serves_conn r.framing c (flushed c) r.over taken es es (q one) (flushed_keeps r.framing c taken es)) refl (flushed c).held refl)
 
 -- a message was taken
 same_fresh : (taken : List (Msg Link ℕ)) (m : Msg Link ℕ) → fresh_of m ≡ [] → fresh_in (taken ++ m ∷ []) ≡ fresh_in taken
 same_fresh taken m e = fresh_in_more taken m ∙ ap (λ ls. fresh_in taken ++ ls) e ∙ append-nil (fresh_in taken)
 
-over_more : (mark : List ℕ) (o : Over) (taken : List (Msg Link ℕ)) (es : List Event) (m : Msg Link ℕ) → fresh_of m ≡ [] → IsOver mark o taken es → IsOver mark o (taken ++ m ∷ []) es
-over_more mark o taken es m none h =
+over_more : (framing : Framing) (o : Over) (taken : List (Msg Link ℕ)) (es : List Event) (m : Msg Link ℕ) → fresh_of m ≡ [] → IsOver framing o taken es → IsOver framing o (taken ++ m ∷ []) es
+over_more framing o taken es m none h =
     record {
       session = h.session;
       ip = h.ip;
+      cause = h.cause;
       came = same_fresh taken m none ∙ h.came;
       said = h.said;
-      at_end = h.at_end;
+      why = h.why;
       told = h.told;
       until = h.until;
       later = h.later ++ m ∷ [];
@@ -411,20 +444,20 @@ some_came : (c : Conn) (taken : List (Msg Link ℕ)) → IsFed c taken → 1 ≤
 some_came c taken f = rw f.came (omega arith)
 
 -- a message that concerns the connection's bytes alone, or nothing of it
-served_more : (mark : List ℕ) (c d : Conn) (taken : List (Msg Link ℕ)) (es : List Event) (m : Msg Link ℕ) → SameNext c d → d.cutter.framing ≡ c.cutter.framing → d.cutter.pieces ≡ c.cutter.pieces → d.link.at_end ≡ c.link.at_end → d.held ≡ c.held → IsFed d (taken ++ m ∷ []) → IsServed mark c taken es → IsServed mark d (taken ++ m ∷ []) es
-served_more mark c d taken es m x framing pieces at_end held fed s =
+served_more : (framing : Framing) (c d : Conn) (taken : List (Msg Link ℕ)) (es : List Event) (m : Msg Link ℕ) → SameNext c d → d.cutter.framing ≡ c.cutter.framing → d.cutter.pieces ≡ c.cutter.pieces → d.link.at_end ≡ c.link.at_end → d.held ≡ c.held → IsFed d (taken ++ m ∷ []) → IsServed framing c taken es → IsServed framing d (taken ++ m ∷ []) es
+served_more framing c d taken es m x framed pieces at_end held fed s =
     let b = s.bare in
     record {
       fed = fed;
       bare = record {
-        framed = framing ∙ b.framed;
+        framed = framed ∙ b.framed;
         fed = pieces ∙ b.fed ∙ sym x.pieces;
         few = rw (x.dispatched, x.pieces) b.few;
         unopened = λ f. let u = b.unopened (sym x.connected ∙ f) in (x.dispatched ∙ u.0, x.closed ∙ u.1);
         closes_last = λ k. let w = b.closes_last (sym x.closed ∙ k) in (w.0, x.cause ∙ w.1);
-        ended = λ k. let w = b.ended (k.0, sym x.cause ∙ k.1) in (x.dispatched ∙ w.0 ∙ ap (λ ps. length (packets_of mark ps)) (sym x.pieces), at_end ∙ w.1);
+        ended = λ k e. let w = b.ended k (sym x.cause ∙ e) in (x.dispatched ∙ w.0 ∙ ap (λ ps. length (packets_of framing ps)) (sym x.pieces), rw (x.pieces, at_end) w.1);
       };
-      held = subst (λ (h : Option Event). HeldIsNext mark d h) (sym held) (same_held mark c d x c.held s.held);
+      held = subst (λ (h : Option Event). HeldIsNext framing d h) (sym held) (same_held framing c d x c.held s.held);
       told = s.told ∙ rw (x.session, x.connected, x.dispatched, x.pieces, x.closed) refl;
     }
 
@@ -470,27 +503,27 @@ bye_fed c s taken f false is also =
 eq_swap : (m n : ℕ) → (m == n) ≡ (n == m)
 eq_swap m n = grind (arith, nat_tests)
 
-serves_send : (mark : List ℕ) (s : ℕ) (b : List ℕ) (conn : Option Conn) (over : Option Over) (taken : List (Msg Link ℕ)) (es : List Event) → Serves mark conn over taken es → Serves mark (map_conn (with_send s b) conn) over (taken ++ Send s b ∷ []) es
-serves_send mark s b None None taken es h = (same_fresh taken (Send s b) refl ∙ h.0, h.1)
-serves_send mark s b None (Some o) taken es h = over_more mark o taken es (Send s b) refl h
-serves_send mark s b (Some c) (Some o) taken es h = absurd h
-serves_send mark s b (Some c) None taken es h =
+serves_send : (framing : Framing) (s : ℕ) (b : List ℕ) (conn : Option Conn) (over : Option Over) (taken : List (Msg Link ℕ)) (es : List Event) → Serves framing conn over taken es → Serves framing (map_conn (with_send s b) conn) over (taken ++ Send s b ∷ []) es
+serves_send framing s b None None taken es h = (same_fresh taken (Send s b) refl ∙ h.0, h.1)
+serves_send framing s b None (Some o) taken es h = over_more framing o taken es (Send s b) refl h
+serves_send framing s b (Some c) (Some o) taken es h = absurd h
+serves_send framing s b (Some c) None taken es h =
     by_session (c.session == s) (send_fed c s b taken h.fed (c.session == s) refl (eq_swap s c.session))
   where
-    by_session : (t : Bool) → IsFed (if t then record c { unsent = c.unsent ++ b } else c) (taken ++ Send s b ∷ []) → IsServed mark (if t then record c { unsent = c.unsent ++ b } else c) (taken ++ Send s b ∷ []) es
-    by_session true f = served_more mark c (record c { unsent = c.unsent ++ b }) taken es (Send s b) (record { session = refl; connected = refl; given = refl; dispatched = refl; pieces = refl; cause = refl; closed = refl }) refl refl refl refl f h
-    by_session false f = served_more mark c c taken es (Send s b) (record { session = refl; connected = refl; given = refl; dispatched = refl; pieces = refl; cause = refl; closed = refl }) refl refl refl refl f h
+    by_session : (t : Bool) → IsFed (if t then record c { unsent = c.unsent ++ b } else c) (taken ++ Send s b ∷ []) → IsServed framing (if t then record c { unsent = c.unsent ++ b } else c) (taken ++ Send s b ∷ []) es
+    by_session true f = served_more framing c (record c { unsent = c.unsent ++ b }) taken es (Send s b) (record { session = refl; connected = refl; given = refl; dispatched = refl; pieces = refl; cause = refl; closed = refl }) refl refl refl refl f h
+    by_session false f = served_more framing c c taken es (Send s b) (record { session = refl; connected = refl; given = refl; dispatched = refl; pieces = refl; cause = refl; closed = refl }) refl refl refl refl f h
 
-serves_bye : (mark : List ℕ) (s : ℕ) (conn : Option Conn) (over : Option Over) (taken : List (Msg Link ℕ)) (es : List Event) → Serves mark conn over taken es → Serves mark (map_conn (with_bye s) conn) over (taken ++ Bye s ∷ []) es
-serves_bye mark s None None taken es h = (same_fresh taken (Bye s) refl ∙ h.0, h.1)
-serves_bye mark s None (Some o) taken es h = over_more mark o taken es (Bye s) refl h
-serves_bye mark s (Some c) (Some o) taken es h = absurd h
-serves_bye mark s (Some c) None taken es h =
+serves_bye : (framing : Framing) (s : ℕ) (conn : Option Conn) (over : Option Over) (taken : List (Msg Link ℕ)) (es : List Event) → Serves framing conn over taken es → Serves framing (map_conn (with_bye s) conn) over (taken ++ Bye s ∷ []) es
+serves_bye framing s None None taken es h = (same_fresh taken (Bye s) refl ∙ h.0, h.1)
+serves_bye framing s None (Some o) taken es h = over_more framing o taken es (Bye s) refl h
+serves_bye framing s (Some c) (Some o) taken es h = absurd h
+serves_bye framing s (Some c) None taken es h =
     by_session (c.session == s) (bye_fed c s taken h.fed (c.session == s) refl (eq_swap s c.session))
   where
-    by_session : (t : Bool) → IsFed (if t then record c { awaiting = false } else c) (taken ++ Bye s ∷ []) → IsServed mark (if t then record c { awaiting = false } else c) (taken ++ Bye s ∷ []) es
-    by_session true f = served_more mark c (record c { awaiting = false }) taken es (Bye s) (record { session = refl; connected = refl; given = refl; dispatched = refl; pieces = refl; cause = refl; closed = refl }) refl refl refl refl f h
-    by_session false f = served_more mark c c taken es (Bye s) (record { session = refl; connected = refl; given = refl; dispatched = refl; pieces = refl; cause = refl; closed = refl }) refl refl refl refl f h
+    by_session : (t : Bool) → IsFed (if t then record c { awaiting = false } else c) (taken ++ Bye s ∷ []) → IsServed framing (if t then record c { awaiting = false } else c) (taken ++ Bye s ∷ []) es
+    by_session true f = served_more framing c (record c { awaiting = false }) taken es (Bye s) (record { session = refl; connected = refl; given = refl; dispatched = refl; pieces = refl; cause = refl; closed = refl }) refl refl refl refl f h
+    by_session false f = served_more framing c c taken es (Bye s) (record { session = refl; connected = refl; given = refl; dispatched = refl; pieces = refl; cause = refl; closed = refl }) refl refl refl refl f h
 
 event_fed : (c : Conn) (e : Event) (taken : List (Msg Link ℕ)) → IsFed c taken → IsFed c (taken ++ EventMsg e ∷ [])
 event_fed c e taken f =
@@ -500,19 +533,19 @@ event_fed c e taken f =
       byes = λ k a. omega (arith, byes_in_append c.session taken (EventMsg e ∷ []), f.byes k a);
     }
 
-serves_event : (mark : List ℕ) (e : Event) (conn : Option Conn) (over : Option Over) (taken : List (Msg Link ℕ)) (es : List Event) → Serves mark conn over taken es → Serves mark conn over (taken ++ EventMsg e ∷ []) es
-serves_event mark e None None taken es h = (same_fresh taken (EventMsg e) refl ∙ h.0, h.1)
-serves_event mark e None (Some o) taken es h = over_more mark o taken es (EventMsg e) refl h
-serves_event mark e (Some c) (Some o) taken es h = absurd h
-serves_event mark e (Some c) None taken es h =
-    served_more mark c c taken es (EventMsg e) (record { session = refl; connected = refl; given = refl; dispatched = refl; pieces = refl; cause = refl; closed = refl }) refl refl refl refl (event_fed c e taken h.fed) h
+serves_event : (framing : Framing) (e : Event) (conn : Option Conn) (over : Option Over) (taken : List (Msg Link ℕ)) (es : List Event) → Serves framing conn over taken es → Serves framing conn over (taken ++ EventMsg e ∷ []) es
+serves_event framing e None None taken es h = (same_fresh taken (EventMsg e) refl ∙ h.0, h.1)
+serves_event framing e None (Some o) taken es h = over_more framing o taken es (EventMsg e) refl h
+serves_event framing e (Some c) (Some o) taken es h = absurd h
+serves_event framing e (Some c) None taken es h =
+    served_more framing c c taken es (EventMsg e) (record { session = refl; connected = refl; given = refl; dispatched = refl; pieces = refl; cause = refl; closed = refl }) refl refl refl refl (event_fed c e taken h.fed) h
 
 -- a second link can't come
 no_second : (taken : List (Msg Link ℕ)) (l : Link) (ip s : ℕ) → IsOneFresh (taken ++ Fresh l ip s ∷ []) → 1 ≤ length (fresh_in taken) → ⊥
 no_second taken l ip s one some = omega (arith, some, one.one, ap length (fresh_in_more taken (Fresh l ip s)), length-append (fresh_in taken) ((ip, s) ∷ []))
 
-serves_fresh : (mark : List ℕ) (l : Link) (ip s : ℕ) (conn : Option Conn) (over : Option Over) (taken : List (Msg Link ℕ)) (es : List Event) → Serves mark conn over taken es → IsOneFresh (taken ++ Fresh l ip s ∷ []) → Serves mark (joined_conn mark l ip s conn) over (taken ++ Fresh l ip s ∷ []) es
-serves_fresh mark l ip s None None taken es h one =
+serves_fresh : (framing : Framing) (l : Link) (ip s : ℕ) (conn : Option Conn) (over : Option Over) (taken : List (Msg Link ℕ)) (es : List Event) → Serves framing conn over taken es → IsOneFresh (taken ++ Fresh l ip s ∷ []) → Serves framing (joined_conn framing l ip s conn) over (taken ++ Fresh l ip s ∷ []) es
+serves_fresh framing l ip s None None taken es h one =
     let new = (AllNew-append_right taken (Fresh l ip s ∷ []) one.new).0 in
     rw new (record {
       fed = record {
@@ -520,22 +553,22 @@ serves_fresh mark l ip s None None taken es h one =
         bytes = sym (ap (λ ms. concat (sends_in s ms)) (behind_fresh_new taken new_link ip s h.0));
         byes = λ k a. absurd cc;
       };
-      bare = record { framed = refl; fed = refl; few = omega arith; unopened = λ _. (refl, refl); closes_last = λ k. absurd cc; ended = λ k. absurd (let v : None ≡ Some k.0 = k.1 in cc) };
+      bare = record { framed = refl; fed = refl; few = omega arith; unopened = λ _. (refl, refl); closes_last = λ k. absurd cc; ended = λ k e. absurd (let v : None ≡ Some k = e in cc) };
       held = refl;
       told = h.1;
     })
-serves_fresh mark l ip s None (Some o) taken es h one = absurd (no_second taken l ip s one (rw h.came (omega arith)))
-serves_fresh mark l ip s (Some c) None taken es h one = absurd (no_second taken l ip s one (some_came c taken h.fed))
-serves_fresh mark l ip s (Some c) (Some o) taken es h one = absurd h
+serves_fresh framing l ip s None (Some o) taken es h one = absurd (no_second taken l ip s one (rw h.came (omega arith)))
+serves_fresh framing l ip s (Some c) None taken es h one = absurd (no_second taken l ip s one (some_came c taken h.fed))
+serves_fresh framing l ip s (Some c) (Some o) taken es h one = absurd h
 
 took_keeps : (r : Reactor) (taken : List (Msg Link ℕ)) (es : List Event) (m : Msg Link ℕ) → Quiet r taken es → Quiet (settled_msg r m) (taken ++ m ∷ []) es
-took_keeps r taken es (Fresh l ip s) q one = serves_fresh r.mark l ip s r.conn r.over taken es (q (IsOneFresh-fewer taken (Fresh l ip s ∷ []) one)) one
-took_keeps r taken es (Send s b) q one = serves_send r.mark s b r.conn r.over taken es (q (IsOneFresh-fewer taken (Send s b ∷ []) one))
-took_keeps r taken es (Bye s) q one = serves_bye r.mark s r.conn r.over taken es (q (IsOneFresh-fewer taken (Bye s ∷ []) one))
-took_keeps r taken es (EventMsg e) q one = serves_event r.mark e r.conn r.over taken es (q (IsOneFresh-fewer taken (EventMsg e ∷ []) one))
+took_keeps r taken es (Fresh l ip s) q one = serves_fresh r.framing l ip s r.conn r.over taken es (q (IsOneFresh-fewer taken (Fresh l ip s ∷ []) one)) one
+took_keeps r taken es (Send s b) q one = serves_send r.framing s b r.conn r.over taken es (q (IsOneFresh-fewer taken (Send s b ∷ []) one))
+took_keeps r taken es (Bye s) q one = serves_bye r.framing s r.conn r.over taken es (q (IsOneFresh-fewer taken (Bye s ∷ []) one))
+took_keeps r taken es (EventMsg e) q one = serves_event r.framing e r.conn r.over taken es (q (IsOneFresh-fewer taken (EventMsg e ∷ []) one))
 
 -- a turn keeps the reactor's law, whatever the pipe answers
-pub reactor_keeps : (r : Reactor) → IsFit (framing_of r.mark) → (taken : List (Msg Link ℕ)) (es : List Event) (read : LinkRead) → Quiet r taken es → QuietAfter (chosen r read).reactor (chosen r read).ask taken es
+pub reactor_keeps : (r : Reactor) → IsFit r.framing → (taken : List (Msg Link ℕ)) (es : List Event) (read : LinkRead) → Quiet r taken es → QuietAfter (chosen r read).reactor (chosen r read).ask taken es
 reactor_keeps r fit taken es read q =
     elim r.took as (λ t. let d = (if t then served (record r { took = false }) read else record { reactor = record r { took = true }; ask = Take; reads = false }) in QuietAfter d.reactor d.ask taken es) [
       | true ↦ served_keeps (record r { took = false }) fit taken es read r.conn q refl

@@ -9,6 +9,7 @@ use Rattle.sw_data.specs.declared.messages.Ask.{Ask}
 use Rattle.sw_data.specs.declared.messages.Ask.TheVariants.{Take, Push, Nothing as AskNothing, Rest}
 use Rattle.sw_data.specs.declared.messages.Got.{Got}
 use Rattle.sw_data.specs.declared.messages.Got.TheVariants.{Start, Took, Empty, Pushed, Full, Nothing as GotNothing}
+use Rattle.sw_frame.specs.declared.framing.Framing.{Framing}
 use Rattle.sw_link.specs.declared.link.Link.{Link}
 use Rattle.sw_record.specs.Terms.{IsPrefix}
 use Rattle.sw_conn.specs.declared.conn.Conn.{Conn}
@@ -39,17 +40,17 @@ story_begins : (s : ℕ) (opened : Bool) (n : ℕ) (ps : List (List ℕ)) (close
 story_begins s true n ps closed u h = story_all s n ps closed h
 story_begins s false n ps closed u h = let k = u refl in (story s true ps true, rw (k.0, k.1) refl)
 
-served_live : (mark : List ℕ) (c : Conn) (taken : List (Msg Link ℕ)) (es : List Event) → IsServed mark c taken es → IsLive mark c taken es
-served_live mark c taken es s =
+served_live : (framing : Framing) (c : Conn) (taken : List (Msg Link ℕ)) (es : List Event) → IsServed framing c taken es → IsLive framing c taken es
+served_live framing c taken es s =
     let b = s.bare in
-    let x = story_begins c.session c.connected c.dispatched (packets_of mark c.link.pieces) c.closed b.unopened (λ k. (b.ended (b.closes_last k)).0) in
+    let x = story_begins c.session c.connected c.dispatched (packets_of framing c.link.pieces) c.closed b.unopened (λ k. let w = b.closes_last k in (b.ended w.0 w.1).0) in
     record { came = s.fed.came; told = (x.0, ap (λ ys. ys ++ x.0) s.told ∙ x.1); bytes = (c.unsent, s.fed.bytes) }
 
-serves_shows : (mark : List ℕ) (conn : Option Conn) (over : Option Over) (taken : List (Msg Link ℕ)) (es : List Event) → Serves mark conn over taken es → Shows mark conn over taken es
-serves_shows mark None None taken es h = h.1
-serves_shows mark (Some c) None taken es h = served_live mark c taken es h
-serves_shows mark None (Some o) taken es h = h
-serves_shows mark (Some c) (Some o) taken es h = absurd h
+serves_shows : (framing : Framing) (conn : Option Conn) (over : Option Over) (taken : List (Msg Link ℕ)) (es : List Event) → Serves framing conn over taken es → Shows framing conn over taken es
+serves_shows framing None None taken es h = h.1
+serves_shows framing (Some c) None taken es h = served_live framing c taken es h
+serves_shows framing None (Some o) taken es h = h
+serves_shows framing (Some c) (Some o) taken es h = absurd h
 
 -- what isn't settled yet changes nothing that is shown
 record SameShown (c d : Conn) : Type 0 where
@@ -57,19 +58,19 @@ record SameShown (c d : Conn) : Type 0 where
   ip : d.ip ≡ c.ip
   link : d.link ≡ c.link
 
-live_same : (mark : List ℕ) (c d : Conn) (taken : List (Msg Link ℕ)) (es : List Event) → SameShown c d → IsLive mark d taken es → IsLive mark c taken es
-live_same mark c d taken es x h =
+live_same : (framing : Framing) (c d : Conn) (taken : List (Msg Link ℕ)) (es : List Event) → SameShown c d → IsLive framing d taken es → IsLive framing c taken es
+live_same framing c d taken es x h =
     record {
       came = h.came ∙ rw (x.ip, x.session) refl;
       told = (h.told.0, h.told.1 ∙ rw (x.session, x.link) refl);
       bytes = (h.bytes.0, ap (λ (l : Link). l.written ++ h.bytes.0) (sym x.link) ∙ h.bytes.1 ∙ ap (λ s. concat (sends_in s (behind_fresh taken))) x.session);
     }
 
-shows_map : (mark : List ℕ) (f : Conn → Conn) → ((c : Conn) → SameShown c (f c)) → (conn : Option Conn) (over : Option Over) (taken : List (Msg Link ℕ)) (es : List Event) → Serves mark (map_conn f conn) over taken es → Shows mark conn over taken es
-shows_map mark f same None None taken es h = h.1
-shows_map mark f same (Some c) None taken es h = live_same mark c (f c) taken es (same c) (served_live mark (f c) taken es h)
-shows_map mark f same None (Some o) taken es h = h
-shows_map mark f same (Some c) (Some o) taken es h = absurd h
+shows_map : (framing : Framing) (f : Conn → Conn) → ((c : Conn) → SameShown c (f c)) → (conn : Option Conn) (over : Option Over) (taken : List (Msg Link ℕ)) (es : List Event) → Serves framing (map_conn f conn) over taken es → Shows framing conn over taken es
+shows_map framing f same None None taken es h = h.1
+shows_map framing f same (Some c) None taken es h = live_same framing c (f c) taken es (same c) (served_live framing (f c) taken es h)
+shows_map framing f same None (Some o) taken es h = h
+shows_map framing f same (Some c) (Some o) taken es h = absurd h
 
 noted_same : (c : Conn) (k : Asked) → SameShown c (noted_as k c)
 noted_same c AskedNothing = record { session = refl; ip = refl; link = refl }
@@ -83,28 +84,28 @@ send_same s b c = elim (c.session == s) as (λ t. SameShown c (if t then record 
 bye_same : (s : ℕ) (c : Conn) → SameShown c (with_bye s c)
 bye_same s c = elim (c.session == s) as (λ t. SameShown c (if t then record c { awaiting = false } else c)) [ true ↦ record { session = refl; ip = refl; link = refl } | false ↦ record { session = refl; ip = refl; link = refl } ]
 
-joined_shows : (mark : List ℕ) (l : Link) (ip s : ℕ) (conn : Option Conn) (over : Option Over) (taken : List (Msg Link ℕ)) (es : List Event) → Serves mark (joined_conn mark l ip s conn) over taken es → Shows mark conn over taken es
-joined_shows mark l ip s None None taken es h = h.told
-joined_shows mark l ip s None (Some o) taken es h = absurd h
-joined_shows mark l ip s (Some c) over taken es h = serves_shows mark (Some c) over taken es h
+joined_shows : (framing : Framing) (l : Link) (ip s : ℕ) (conn : Option Conn) (over : Option Over) (taken : List (Msg Link ℕ)) (es : List Event) → Serves framing (joined_conn framing l ip s conn) over taken es → Shows framing conn over taken es
+joined_shows framing l ip s None None taken es h = h.told
+joined_shows framing l ip s None (Some o) taken es h = absurd h
+joined_shows framing l ip s (Some c) over taken es h = serves_shows framing (Some c) over taken es h
 
 -- with what it got
-pub got_shows : (r : Reactor) (got : Got (Msg Link ℕ)) (taken : List (Msg Link ℕ)) (es : List Event) → IsOneFresh taken → Quiet (settled r got) taken es → Shows r.mark r.conn r.over taken es
-got_shows r Start taken es one q = serves_shows r.mark r.conn r.over taken es (q one)
-got_shows r (Took (Fresh l ip s)) taken es one q = joined_shows r.mark l ip s r.conn r.over taken es (q one)
-got_shows r (Took (Send s b)) taken es one q = shows_map r.mark (with_send s b) (send_same s b) r.conn r.over taken es (q one)
-got_shows r (Took (Bye s)) taken es one q = shows_map r.mark (with_bye s) (bye_same s) r.conn r.over taken es (q one)
-got_shows r (Took (EventMsg e)) taken es one q = serves_shows r.mark r.conn r.over taken es (q one)
-got_shows r Empty taken es one q = serves_shows r.mark r.conn r.over taken es (q one)
-got_shows r Pushed taken es one q = shows_map r.mark noted (λ c. noted_same c c.asked) r.conn r.over taken es (q one)
-got_shows r (Full (Fresh l ip s)) taken es one q = serves_shows r.mark r.conn r.over taken es (q one)
-got_shows r (Full (Send s b)) taken es one q = serves_shows r.mark r.conn r.over taken es (q one)
-got_shows r (Full (Bye s)) taken es one q = serves_shows r.mark r.conn r.over taken es (q one)
-got_shows r (Full (EventMsg e)) taken es one q = shows_map r.mark (λ c. returned c e) (λ c. record { session = refl; ip = refl; link = refl }) r.conn r.over taken es (q one)
-got_shows r GotNothing taken es one q = serves_shows r.mark r.conn r.over taken es (q one)
+pub got_shows : (r : Reactor) (got : Got (Msg Link ℕ)) (taken : List (Msg Link ℕ)) (es : List Event) → IsOneFresh taken → Quiet (settled r got) taken es → Shows r.framing r.conn r.over taken es
+got_shows r Start taken es one q = serves_shows r.framing r.conn r.over taken es (q one)
+got_shows r (Took (Fresh l ip s)) taken es one q = joined_shows r.framing l ip s r.conn r.over taken es (q one)
+got_shows r (Took (Send s b)) taken es one q = shows_map r.framing (with_send s b) (send_same s b) r.conn r.over taken es (q one)
+got_shows r (Took (Bye s)) taken es one q = shows_map r.framing (with_bye s) (bye_same s) r.conn r.over taken es (q one)
+got_shows r (Took (EventMsg e)) taken es one q = serves_shows r.framing r.conn r.over taken es (q one)
+got_shows r Empty taken es one q = serves_shows r.framing r.conn r.over taken es (q one)
+got_shows r Pushed taken es one q = shows_map r.framing noted (λ c. noted_same c c.asked) r.conn r.over taken es (q one)
+got_shows r (Full (Fresh l ip s)) taken es one q = serves_shows r.framing r.conn r.over taken es (q one)
+got_shows r (Full (Send s b)) taken es one q = serves_shows r.framing r.conn r.over taken es (q one)
+got_shows r (Full (Bye s)) taken es one q = serves_shows r.framing r.conn r.over taken es (q one)
+got_shows r (Full (EventMsg e)) taken es one q = shows_map r.framing (λ c. returned c e) (λ c. record { session = refl; ip = refl; link = refl }) r.conn r.over taken es (q one)
+got_shows r GotNothing taken es one q = serves_shows r.framing r.conn r.over taken es (q one)
 
 -- with what it asked for
-pub asked_shows : (r : Reactor) (ask : Ask (Msg Link ℕ)) (taken : List (Msg Link ℕ)) (es : List Event) → IsOneFresh taken → QuietAfter r ask taken es → Shows r.mark r.conn r.over taken es
+pub asked_shows : (r : Reactor) (ask : Ask (Msg Link ℕ)) (taken : List (Msg Link ℕ)) (es : List Event) → IsOneFresh taken → QuietAfter r ask taken es → Shows r.framing r.conn r.over taken es
 asked_shows r Take taken es one q = got_shows r Empty taken es one q.0
 asked_shows r (Push t (EventMsg e)) taken es one q = got_shows r (Full (EventMsg e)) taken es one q.2
 asked_shows r (Push t (Fresh l ip s)) taken es one q = absurd q

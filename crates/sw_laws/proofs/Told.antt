@@ -6,6 +6,7 @@ use Rattle.sw_data.specs.declared.events.Event.TheVariants.{Connect, Packet, Clo
 use Rattle.sw_data.specs.declared.events.Given.{Given}
 use Rattle.sw_data.specs.declared.events.Given.TheVariants.{Event as EventGiven, Answer as AnswerGiven}
 use Rattle.sw_data.specs.declared.events.Act.{Act}
+use Rattle.sw_frame.specs.declared.framing.Framing.{Framing}
 use Rattle.sw_record.specs.declared.record.LinkRecord.{LinkRecord}
 use Rattle.sw_record.specs.Logs.{session_in, only, events_of, told_of, packet_in, packets_in, Dialogue}
 use Rattle.sw_record.specs.Terms.{IsPrefix, numbered}
@@ -99,9 +100,9 @@ closed_last s n [] = refl
 closed_last s n (b ∷ bs) = closed_last s (n + 1) bs
 
 -- a log that was told a beginning of the story was told in order
-pub told_in_order : (mark : List ℕ) (s : ℕ) (l : LinkRecord) (log : List (Given × Act)) → IsPrefix (events_of log) (story s true (packets_of mark l.pieces) true) → IsToldInOrder (core_terms mark) s l log
-told_in_order mark s l log p =
-    let bs : List (List ℕ) = packets_of mark l.pieces in
+pub told_in_order : (framing : Framing) (s : ℕ) (l : LinkRecord) (log : List (Given × Act)) → IsPrefix (events_of log) (story s true (packets_of framing l.pieces) true) → IsToldInOrder (core_terms framing) s l log
+told_in_order framing s l log p =
+    let bs : List (List ℕ) = packets_of framing l.pieces in
     let is : told_of s log ≡ events_of log = told_is s bs log p in
     let first : ConnectFirst (events_of log) = connect_first_prefix (events_of log) p.0 (subst ConnectFirst (sym p.1) (no_connect s 0 bs)) in
     let last : ClosedLast (events_of log) = closed_last_prefix (events_of log) p.0 (subst ClosedLast (sym p.1) (closed_last s 0 bs)) in

@@ -5,6 +5,7 @@ use Rattle.sw_data.specs.declared.events.Event.{Event}
 use Rattle.sw_data.specs.declared.events.Given.{Given}
 use Rattle.sw_data.specs.declared.events.Act.{Act}
 use Rattle.sw_data.specs.declared.messages.Msg.{Msg}
+use Rattle.sw_frame.specs.declared.framing.Framing.{Framing}
 use Rattle.sw_link.specs.declared.link.Link.{Link}
 use Rattle.sw_record.specs.Terms.{Terms, IsPrefix}
 use Rattle.sw_record.specs.Bytes.{StandsEarly}
@@ -15,22 +16,22 @@ use Rattle.sw_laws.specs.Story.{story, packets_of}
 use Rattle.sw_laws.specs.ReactorLaw.{IsOver}
 use Rattle.sw_laws.specs.WorkerLaw.{WorkerShows}
 
--- the settings of the core: one worker, 1,024 descriptors, and numbers from 1 on
-abbrev pub core_terms : List ℕ → Terms
-core_terms mark = record { packets = packets_of mark; worker_num = 1; max_conn = 1024; session_last = 0 }
+-- the settings of the core, by its framing: one worker, 1,024 descriptors, and numbers from 1 on
+abbrev pub core_terms : Framing → Terms
+core_terms framing = record { framing = framing; worker_num = 1; max_conn = 1024; session_last = 0 }
 
 -- a connection, whatever is on its way
-pub record IsLive (mark : List ℕ) (c : Conn) (taken : List (Msg Link ℕ)) (events : List Event) : Type 0 where
+pub record IsLive (framing : Framing) (c : Conn) (taken : List (Msg Link ℕ)) (events : List Event) : Type 0 where
   pub came : fresh_in taken ≡ (c.ip, c.session) ∷ []
-  pub told : IsPrefix events (story c.session true (packets_of mark c.link.pieces) true)
+  pub told : IsPrefix events (story c.session true (packets_of framing c.link.pieces) true)
   pub bytes : IsPrefix c.link.written (concat (sends_in c.session (behind_fresh taken)))
 
 -- what a reactor shows, whatever is on its way
-abbrev pub Shows : List ℕ → Option Conn → Option Over → List (Msg Link ℕ) → List Event → Type 0
-Shows mark None None taken events = events ≡ []
-Shows mark (Some c) None taken events = IsLive mark c taken events
-Shows mark None (Some o) taken events = IsOver mark o taken events
-Shows mark (Some c) (Some o) taken events = ⊥
+abbrev pub Shows : Framing → Option Conn → Option Over → List (Msg Link ℕ) → List Event → Type 0
+Shows framing None None taken events = events ≡ []
+Shows framing (Some c) None taken events = IsLive framing c taken events
+Shows framing None (Some o) taken events = IsOver framing o taken events
+Shows framing (Some c) (Some o) taken events = ⊥
 
 -- what the worker shows, and what the pipes and the moment of the link give
 pub record IsJoined (log : List (Given × Act)) (taken worker_took worker_pushed : List (Msg Link ℕ)) (events : List Event) : Type 0 where

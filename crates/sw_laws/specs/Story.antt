@@ -2,8 +2,8 @@
 use Rattle.std.specs.Prelude.{ℕ, ◌+◌, Bool, if◌then◌else◌, List, [], ◌∷◌, ◌++◌}
 use Rattle.sw_data.specs.declared.events.Event.{Event}
 use Rattle.sw_data.specs.declared.events.Event.TheVariants.{Connect, Packet, Closed}
+use Rattle.sw_frame.specs.declared.framing.Framing.{Framing}
 use Rattle.sw_frame.specs.Cut.{cut}
-use Rattle.sw_conn.specs.Framed.{framing_of}
 
 -- packets of a session, with their numbers
 abbrev pub packets_from : ℕ → ℕ → List (List ℕ) → List Event
@@ -14,6 +14,6 @@ packets_from s n (b ∷ bs) = Packet s n b ∷ packets_from s (n + 1) bs
 abbrev pub story : ℕ → Bool → List (List ℕ) → Bool → List Event
 story s opened bs closed = (if opened then Connect s ∷ [] else []) ++ (packets_from s 0 bs ++ (if closed then Closed s ∷ [] else []))
 
--- the packets that the core's framing cuts from pieces
-abbrev pub packets_of : List ℕ → List (List ℕ) → List (List ℕ)
-packets_of mark pieces = (cut (framing_of mark) pieces).packets
+-- the packets that a framing cuts from pieces
+abbrev pub packets_of : Framing → List (List ℕ) → List (List ℕ)
+packets_of framing pieces = (cut framing pieces).packets

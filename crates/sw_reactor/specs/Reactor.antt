@@ -1,11 +1,12 @@
 -- The reactor's turn, as a table.
-use Rattle.std.specs.Prelude.{ℕ, Bool, true, false, if◌then◌else◌, List, Option, Some, None}
+use Rattle.std.specs.Prelude.{ℕ, Bool, true, false, if◌then◌else◌, Option, Some, None}
 use Rattle.sw_data.specs.declared.messages.Msg.{Msg}
 use Rattle.sw_data.specs.declared.messages.Msg.TheVariants.{Fresh, Send, Bye, Event as EventMsg}
 use Rattle.sw_data.specs.declared.messages.Ask.{Ask}
 use Rattle.sw_data.specs.declared.messages.Ask.TheVariants.{Take, Push as AskPush, Nothing as AskNothing, Rest}
 use Rattle.sw_data.specs.declared.messages.Got.{Got}
 use Rattle.sw_data.specs.declared.messages.Got.TheVariants.{Start, Took, Empty, Pushed, Full, Nothing as GotNothing}
+use Rattle.sw_frame.specs.declared.framing.Framing.{Framing}
 use Rattle.sw_link.specs.declared.link.Link.{Link}
 use Rattle.sw_link.specs.declared.link.LinkRead.{LinkRead}
 use Rattle.sw_link.specs.declared.link.Script.{Script}
@@ -18,12 +19,12 @@ use Rattle.sw_reactor.specs.declared.reactor.Reactor.{Reactor}
 use Rattle.sw_reactor.specs.Place.{worker_of, ended_of}
 
 -- a link joins where none is there
-abbrev pub joined_conn : List ℕ → Link → ℕ → ℕ → Option Conn → Option Conn
-joined_conn mark link ip s (Some c) = Some c
-joined_conn mark link ip s None = Some (fresh mark link ip s)
+abbrev pub joined_conn : Framing → Link → ℕ → ℕ → Option Conn → Option Conn
+joined_conn framing link ip s (Some c) = Some c
+joined_conn framing link ip s None = Some (fresh framing link ip s)
 
 abbrev pub joined : Reactor → Link → ℕ → ℕ → Reactor
-joined r link ip s = record r { conn = joined_conn r.mark link ip s r.conn }
+joined r link ip s = record r { conn = joined_conn r.framing link ip s r.conn }
 
 abbrev pub map_conn : (Conn → Conn) → Option Conn → Option Conn
 map_conn f None = None

@@ -2,7 +2,7 @@ ghost use Rattle.std.specs.Prelude.{◌≡◌, ◌%◌};
 ghost use Rattle.sw_reactor.specs.Place.{worker_of, ended_of};
 
 use std::alloc::Global;
-use sw_conn::{Asked, Choice, Conn, Mark};
+use sw_conn::{Asked, Choice, Conn, FitFraming};
 use sw_data::{Ask, Cause, Ended, Got, Msg, Octets, OutOfMemory, Session, Target, fixed};
 use sw_frame::Cutter;
 use sw_link::{Asks, Gets, Link, Message, Script};
@@ -23,7 +23,8 @@ pub struct Over {
 /// The reactor: the connection that it serves, and the link that ended.
 #[derive(Drop)]
 pub struct Reactor {
-    pub mark: Mark,
+    /// How the bytes of its links are cut into packets.
+    pub framing: FitFraming,
     pub conn: Option<Conn>,
     pub over: Option<Over>,
     /// Its last ask was Take.
@@ -40,11 +41,11 @@ impl Reactor {
     ghost use Rattle.sw_reactor.specs.Stays.{StaysReactor, StaysTurned};
 
     /// A reactor before its first turn. It takes no memory.
-    pub fn new(mark: Mark) -> Reactor
-        ensures { result ≡ record { mark = mark; conn = None; over = None; took = false; empty = false } }
+    pub fn new(framing: FitFraming) -> Reactor
+        ensures { result ≡ record { framing = framing; conn = None; over = None; took = false; empty = false } }
     {
         Reactor {
-            mark,
+            framing,
             conn: None,
             over: None,
             took: false,
@@ -151,7 +152,7 @@ impl Reactor {
         ensures err { OnErr result (self.new ≡ self.old) }
     {
         if self.conn.is_none() {
-            let framing = self.mark.framing()?;
+            let framing = self.framing.copy()?;
             self.conn = Some(Conn {
                 link,
                 ip,

@@ -3,7 +3,7 @@ use Rattle.std.specs.Prelude.{◌≡◌, ℕ, List, [], ◌∷◌, ◌++◌, len
 use Rattle.std.specs.List.{concat}
 use Rattle.sw_data.specs.declared.events.Given.{Given}
 use Rattle.sw_data.specs.declared.events.Act.{Act}
-use Rattle.sw_data.specs.declared.events.Act.TheVariants.{Send, Done}
+use Rattle.sw_data.specs.declared.events.Act.TheVariants.{Done}
 use Rattle.sw_record.specs.declared.record.LinkRecord.{LinkRecord}
 use Rattle.sw_record.specs.declared.record.Record.{Record}
 use Rattle.sw_record.specs.Logs.{told_of}

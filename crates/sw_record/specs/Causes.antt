@@ -1,6 +1,5 @@
 -- What causes and refusals rest on.
-use Rattle.std.specs.Prelude.{◌≡◌, ◌⊎◌, ℕ, ◌%◌, true, Bool, List, [], ◌∷◌, ◌++◌, slice_get, Some}
-use Rattle.sw_data.specs.declared.events.Event.{Event}
+use Rattle.std.specs.Prelude.{◌≡◌, ◌⊎◌, ℕ, ◌%◌, true, Bool, List, [], ◌∷◌, ◌++◌, slice_get, Option, Some}
 use Rattle.sw_data.specs.declared.events.Event.TheVariants.{Connect, Closed}
 use Rattle.sw_data.specs.declared.events.Given.{Given}
 use Rattle.sw_data.specs.declared.events.Given.TheVariants.{Event as EventGiven, Answer as AnswerGiven}
@@ -9,7 +8,11 @@ use Rattle.sw_data.specs.declared.events.Act.TheVariants.{Send, Done}
 use Rattle.sw_data.specs.declared.events.Answer.{Answer}
 use Rattle.sw_data.specs.declared.events.Answer.TheVariants.{Sent, NoSession}
 use Rattle.sw_data.specs.declared.ended.Ended.{Ended}
-use Rattle.sw_data.specs.declared.ended.Cause.TheVariants.{PeerEnd}
+use Rattle.sw_data.specs.declared.ended.Cause.{Cause}
+use Rattle.sw_data.specs.declared.ended.Cause.TheVariants.{PeerEnd, TooLong, BadLength}
+use Rattle.sw_cut.specs.declared.First.TheVariants as first
+use Rattle.sw_frame.specs.declared.framing.Framing.{Framing}
+use Rattle.sw_frame.specs.Cut.{cut}
 use Rattle.sw_record.specs.declared.record.LinkRecord.{LinkRecord}
 use Rattle.sw_record.specs.declared.record.LinkState.TheVariants.{Over}
 use Rattle.sw_record.specs.declared.record.Record.{Record}
@@ -49,9 +52,17 @@ pub record IsOwn (s : ℕ) (log : List (Given × Act)) : Type 0 where
 abbrev pub IsOther : Terms → Record → ℕ → ℕ → Type 0
 IsOther t r s seen = ¬ (seen ≡ s) × ((seen ≡ 0) ⊎ ((l : LinkRecord) × HasLink r.links seen l × (seen % t.max_conn ≡ s % t.max_conn)))
 
+-- what each cause shows: PeerEnd, that a read of the link answered End; TooLong and BadLength, that the cut of the
+-- pieces that were read has that fault
+abbrev pub ShowsCause : Framing → List (List ℕ) → Option Bool → Cause → Type 0
+ShowsCause framing pieces at_end PeerEnd = at_end ≡ Some true
+ShowsCause framing pieces at_end (TooLong n) = (cut framing pieces).fault ≡ Some (first.TooLong n)
+ShowsCause framing pieces at_end (BadLength n) = (cut framing pieces).fault ≡ Some (first.BadLength n)
+
 -- by the record, and by whether a read of each link answered End
 pub record CausesRight (t : Terms) (r : Record) (at_end : List Bool) : Type 0 where
-  pub peer_end : (at : ℕ) (l : LinkRecord) (e : Ended) → slice_get r.links at ≡ Some l → l.state ≡ Over e → e.cause ≡ PeerEnd → slice_get at_end at ≡ Some true
+  -- a link that ended shows its cause
+  pub cause : (at : ℕ) (l : LinkRecord) (e : Ended) → slice_get r.links at ≡ Some l → l.state ≡ Over e → ShowsCause t.framing l.pieces (slice_get at_end at) e.cause
   -- what was sent was sent to the session of a link
   pub sent : (k : ℕ) (log : List (Given × Act)) → slice_get r.workers k ≡ Some log → (s : ℕ) (b : List ℕ) → HasAnswer log (Send s b) Sent → (l : LinkRecord) × HasLink r.links s l
   pub refused : (k : ℕ) (log : List (Given × Act)) → slice_get r.workers k ≡ Some log → (s seen : ℕ) (b : List ℕ) → HasAnswer log (Send s b) (NoSession seen) → IsOther t r s seen

@@ -1,10 +1,11 @@
 -- Sessions are drawn once, and nothing is missing of a link at its end.
-use Rattle.std.specs.Prelude.{◌≡◌, ◌⊎◌, ℕ, ◌+◌, ◌<◌, ◌≤◌, ◌^◌, ◌%◌, List, [], ◌∷◌, ◌++◌, length, take, slice_get, Option, Some, None}
+use Rattle.std.specs.Prelude.{◌≡◌, ◌⊎◌, ℕ, ◌+◌, ◌<◌, ◌≤◌, ◌^◌, ◌%◌, List, [], ◌∷◌, length, take, slice_get, Option, Some, None}
 use Rattle.std.specs.List.{concat}
 use Rattle.sw_data.specs.declared.ended.Ended.{Ended}
-use Rattle.sw_data.specs.declared.ended.Cause.TheVariants.{PeerEnd}
+use Rattle.sw_data.specs.declared.ended.Cause.{Cause}
+use Rattle.sw_data.specs.declared.ended.Cause.TheVariants.{PeerEnd, TooLong, BadLength}
 use Rattle.sw_data.specs.declared.events.Event.{Event}
-use Rattle.sw_data.specs.declared.events.Event.TheVariants.{Connect, Packet, Closed}
+use Rattle.sw_data.specs.declared.events.Event.TheVariants.{Connect, Closed}
 use Rattle.sw_data.specs.declared.events.Given.{Given}
 use Rattle.sw_data.specs.declared.events.Act.{Act}
 use Rattle.sw_record.specs.declared.record.LinkRecord.{LinkRecord}
@@ -12,8 +13,8 @@ use Rattle.sw_record.specs.declared.record.LinkState.{LinkState}
 use Rattle.sw_record.specs.declared.record.LinkState.TheVariants.{Waiting, Live, Over}
 use Rattle.sw_record.specs.declared.record.Record.{Record}
 use Rattle.sw_record.specs.Logs.{told_of, Handled}
-use Rattle.sw_record.specs.Bytes.{Own, Owned, IsPart, StandsLate, EndsDone}
-use Rattle.sw_record.specs.Terms.{Terms, HasLink, IsPrefix, packets_on, target, session_of}
+use Rattle.sw_record.specs.Bytes.{Own, Owned, StandsLate, EndsDone}
+use Rattle.sw_record.specs.Terms.{Terms, HasLink, packets_on, target, session_of}
 
 -- what is said of a link that was accepted
 abbrev pub accepted_in : LinkState → Option Ended
@@ -59,13 +60,19 @@ pub record IsWrittenWhole (r : Record) (s : ℕ) (l : LinkRecord) (o : Owned r s
   pub all : l.written ≡ concat o.out
   pub parts : (k : ℕ) (log : List (Given × Act)) (part : List (List ℕ)) (there : slice_get r.workers k ≡ Some log) (is : slice_get o.parts k ≡ Some part) → (n : ℕ) (e : Event) → slice_get (told_of s log) n ≡ Some e → StandsLate log s (o.is_part k log part there is).back
 
+-- the causes at which all packets were pushed and all that was taken was written
+abbrev pub EndsWhole : Cause → Type 0
+EndsWhole PeerEnd = Unit {0}
+EndsWhole (TooLong n) = Unit {0}
+EndsWhole (BadLength n) = Unit {0}
+
 -- nothing is missing of a link at its end, by the parts and the merged sends that show whose its bytes are
 pub record Whole (t : Terms) (r : Record) (own : Own r) : Type 0 where
   pub dispatched : (s : ℕ) (l : LinkRecord) (e : Ended) → HasLink r.links s l → l.state ≡ Over e → e.dispatched ≤ length (packets_on t l)
-  pub peer_end : (s : ℕ) (l : LinkRecord) (e : Ended) → HasLink r.links s l → l.state ≡ Over e → e.cause ≡ PeerEnd → e.dispatched ≡ length (packets_on t l)
+  pub all_pushed : (s : ℕ) (l : LinkRecord) (e : Ended) → HasLink r.links s l → l.state ≡ Over e → EndsWhole e.cause → e.dispatched ≡ length (packets_on t l)
   pub told : (s : ℕ) (l : LinkRecord) (e : Ended) → HasLink r.links s l → l.state ≡ Over e → (log : List (Given × Act)) → slice_get r.workers (target t s) ≡ Some log → IsToldWhole t s l e log
   pub once : (s : ℕ) (l : LinkRecord) (e : Ended) → HasLink r.links s l → l.state ≡ Over e → (k : ℕ) (log : List (Given × Act)) → slice_get r.workers k ≡ Some log → HasEvent log s (Closed s) → k ≡ target t s
-  pub written : (s : ℕ) (l : LinkRecord) (e : Ended) (has : HasLink r.links s l) → l.state ≡ Over e → e.cause ≡ PeerEnd → IsWrittenWhole r s l (own.owned s l has)
+  pub written : (s : ℕ) (l : LinkRecord) (e : Ended) (has : HasLink r.links s l) → l.state ≡ Over e → EndsWhole e.cause → IsWrittenWhole r s l (own.owned s l has)
 
 -- nothing is on its way any more
 pub record Drained (t : Terms) (r : Record) : Type 0 where

@@ -1,11 +1,9 @@
 -- What a handler's log shows of one session.
-use Rattle.std.specs.Prelude.{◌≡◌, ℕ, ◌+◌, ◌==◌, if◌then◌else◌, List, [], ◌∷◌, ◌++◌}
+use Rattle.std.specs.Prelude.{ℕ, ◌==◌, if◌then◌else◌, List, [], ◌∷◌, ◌++◌}
 use Rattle.sw_data.specs.declared.events.Event.{Event}
 use Rattle.sw_data.specs.declared.events.Event.TheVariants.{Connect, Packet, Closed}
 use Rattle.sw_data.specs.declared.events.Act.{Act}
 use Rattle.sw_data.specs.declared.events.Act.TheVariants.{Send, Done}
-use Rattle.sw_data.specs.declared.events.Answer.{Answer}
-use Rattle.sw_data.specs.declared.events.Answer.TheVariants.{Sent, NoSession}
 use Rattle.sw_data.specs.declared.events.Given.{Given}
 use Rattle.sw_data.specs.declared.events.Given.TheVariants.{Event as EventGiven, Answer as AnswerGiven}
 

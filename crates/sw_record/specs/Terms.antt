@@ -1,14 +1,16 @@
 -- What a record is judged by, and what a link of it shows.
 use Rattle.std.specs.Prelude.{◌≡◌, ℕ, ◌+◌, ◌%◌, List, [], ◌∷◌, ◌++◌, slice_get, Option, Some, None}
 use Rattle.sw_data.specs.Targets.{fixed_target}
+use Rattle.sw_frame.specs.declared.framing.Framing.{Framing}
+use Rattle.sw_frame.specs.Cut.{Cut, cut}
 use Rattle.sw_record.specs.declared.record.LinkRecord.{LinkRecord}
 use Rattle.sw_record.specs.declared.record.LinkState.{LinkState}
 use Rattle.sw_record.specs.declared.record.LinkState.TheVariants.{Waiting, Live, Over}
 
 -- the settings that a record is judged by
 pub record Terms : Type 0 where
-  -- the packets that the framing cuts from some pieces
-  pub packets : List (List ℕ) → List (List ℕ)
+  -- how the pieces of a link are cut into packets
+  pub framing : Framing
   pub worker_num : ℕ
   pub max_conn : ℕ
   pub session_last : ℕ
@@ -38,9 +40,13 @@ abbrev pub numbered : ℕ → List (List ℕ) → List (ℕ × List ℕ)
 numbered n [] = []
 numbered n (b ∷ bs) = (n, b) ∷ numbered (n + 1) bs
 
+-- the cut of a link's pieces
+abbrev pub cut_on : Terms → LinkRecord → Cut
+cut_on t l = cut t.framing l.pieces
+
 -- the packets cut from a link's pieces, with their numbers
 abbrev pub packets_on : Terms → LinkRecord → List (ℕ × List ℕ)
-packets_on t l = numbered 0 (t.packets l.pieces)
+packets_on t l = numbered 0 (cut_on t l).packets
 
 -- the worker of a session, where each connection keeps its worker
 abbrev pub target : Terms → ℕ → ℕ

@@ -2,11 +2,13 @@
 // everything. That they hold of something is told by each account of the core.
 #![tactic(auto)]
 
+ghost use Rattle.std.specs.Prelude.{[], ◌∷◌, true, false};
 ghost use Rattle.sw_record.specs.Order.{InOrder};
 ghost use Rattle.sw_record.specs.Bytes.{Own};
+ghost use Rattle.sw_record.specs.Causes.{CausesRight};
 ghost use Rattle.sw_record.specs.Right.{Dialogues};
 ghost use Rattle.sw_record.specs.Ends.{Whole, SessionsOnce};
-ghost use Rattle.sw_record_rows.specs.Rows.{two_packets, swapped, given_twice, stranger, byte_too_many, packet_missing, answered_twice, number_given_twice};
+ghost use Rattle.sw_record_rows.specs.Rows.{two_packets, swapped, given_twice, stranger, byte_too_many, packet_missing, answered_twice, number_given_twice, over, marked, only_link, no_fault, other_fault, early_fault};
 
 /// The worker was given the second packet first.
 pub fn swapped_packets_are_refused()
@@ -41,4 +43,24 @@ pub fn answer_given_twice_is_refused()
 /// Two links have the same session.
 pub fn number_given_twice_is_refused()
     ensures { ¬ SessionsOnce two_packets number_given_twice }
+{}
+
+/// The link ended since its peer did, and no read answered End.
+pub fn end_that_no_read_saw_is_refused()
+    ensures { ¬ CausesRight two_packets (only_link (over 2)) (false ∷ []) }
+{}
+
+/// The link ended since its bytes are too long, and they may still become a packet.
+pub fn fault_without_cause_is_refused()
+    ensures { ¬ CausesRight marked (only_link no_fault) (false ∷ []) }
+{}
+
+/// The bytes are too long, and the link is said to have ended since their length is bad.
+pub fn other_fault_is_refused()
+    ensures { ¬ CausesRight marked (only_link other_fault) (false ∷ []) }
+{}
+
+/// The link ended since its bytes are too long, and the packet before them was never pushed.
+pub fn fault_before_a_packet_is_refused()
+    ensures { (own : Own (only_link early_fault)) → ¬ Whole marked (only_link early_fault) own }
 {}

@@ -4,6 +4,12 @@
 #[cfg(test)]
 mod end_of_link;
 #[cfg(test)]
+mod faults;
+#[cfg(test)]
+mod fields;
+#[cfg(test)]
+mod framings;
+#[cfg(test)]
 mod one_step_at_a_time;
 #[cfg(test)]
 mod playing;

@@ -1,29 +1,32 @@
 -- The text of a drill is that of a right record.
-use Rattle.std.proofs.Common.{◌≡◌, ℕ, ◌<◌, ◌-◌, ◌^◌, List, [], ◌∷◌, refl, ap, ◌∙◌, sym, subst, arith, Result, Ok, Err, Some, slice_get, lit<}
+use Rattle.std.proofs.Common.{◌≡◌, ℕ, List, [], ◌∷◌, refl, ap, ◌∙◌, sym, subst, Option, Result, Ok, Err, Some, None, slice_get}
 use Rattle.sw_data.specs.declared.ended.Ended.{Ended}
-use Rattle.sw_frame.specs.Cut.{IsFit}
+use Rattle.sw_frame.specs.declared.framing.Framing.{Framing}
 use Rattle.sw_record.specs.declared.step.Step.{Step}
 use Rattle.sw_record.specs.declared.record.LinkRecord.{LinkRecord}
 use Rattle.sw_record.specs.declared.record.LinkState.TheVariants.{Over}
 use Rattle.sw_record.specs.Ends.{Drained}
 use Rattle.sw_record.specs.Right.{Right}
-use Rattle.sw_conn.specs.Framed.{framing_of}
+use Rattle.sw_settings.specs.declared.pair.Pair.{Pair}
+use Rattle.sw_settings.specs.declared.faults.SettingsFault.{SettingsFault}
+use Rattle.sw_settings.specs.Faults.{fault_of}
+use Rattle.sw_settings.specs.Framings.{framing_of}
+use Rattle.sw_settings.proofs.Fits.{framing_fits}
+use Rattle.sw_drill.specs.declared.schedule.Line.{Line}
 use Rattle.sw_drill.specs.declared.schedule.Drill.{Drill}
 use Rattle.sw_drill.specs.Draft.{drill_of}
-use Rattle.sw_drill.specs.Fields.{IsMark}
 use Rattle.sw_drill.specs.Print.{record_text}
 use Rattle.sw_drill.specs.Steps.{steps_of}
-use Rattle.sw_drill.proofs.MarkLaw.{marked_by}
 use Rattle.sw_laws.specs.Joint.{core_terms}
 use Rattle.sw_world.specs.declared.state.State.{State}
 use Rattle.sw_world.specs.Steps.{start, run}
 use Rattle.sw_world.specs.Account.{record_of, at_end_of}
 use Rattle.sw_world.specs.Played.{Played}
-use Rattle.sw_world.proofs.Start.{mark_run}
+use Rattle.sw_world.proofs.Start.{framing_run}
 use Rattle.sw_world.proofs.Reached.{right_reached, drained_reached}
 use Rattle.sw_top.specs.declared.status.Status.{Status}
 use Rattle.sw_top.specs.declared.status.Status.TheVariants as statuses
-use Rattle.sw_top.specs.Run.{stepped, played, fresh, account_text, drill_text, answered, answer_of}
+use Rattle.sw_top.specs.Run.{stepped, played, fresh, account_text, drill_text, played_or, answered, answer_of}
 use Rattle.sw_top.specs.Says.{FromSource, FromSink, Said}
 use Rattle.sw_top.specs.Rightly.{IsRightText, PrintsRight}
 
@@ -33,40 +36,42 @@ unfolding played stepped
 played_run [] s = refl
 played_run (x ∷ xs) s = played_run xs (stepped x s)
 
-drilled : (d : Drill) → drill_text d ≡ record_text (Played d.mark (steps_of d.lines))
+drilled : (pairs : List Pair) (ls : List Line) → drill_text pairs ls ≡ record_text (Played (framing_of pairs) (steps_of ls))
 unfolding account_text fresh
-drilled d = ap (λ s. record_text (record_of s)) (played_run (steps_of d.lines) (start d.mark))
+drilled pairs ls = ap (λ s. record_text (record_of s)) (played_run (steps_of ls) (start (framing_of pairs)))
 
-is_fit : (mark : List ℕ) → IsMark mark → IsFit (framing_of mark)
-is_fit mark m = (m.0, m.1, lit< tt)
+right_played : (pairs : List Pair) → fault_of pairs ≡ None → (steps : List Step) → Right (core_terms (framing_of pairs)) (Played (framing_of pairs) steps) (at_end_of (run steps (start (framing_of pairs))))
+right_played pairs e steps =
+    let s : State = run steps (start (framing_of pairs)) in
+    subst (λ (x : Framing). Right (core_terms x) (record_of s) (at_end_of s)) (framing_run steps (start (framing_of pairs))) (right_reached s (framing_of pairs, (steps, (framing_fits pairs e, refl))))
 
-right_played : (mark : List ℕ) → IsMark mark → (steps : List Step) → Right (core_terms mark) (Played mark steps) (at_end_of (run steps (start mark)))
-right_played mark m steps =
-    let s : State = run steps (start mark) in
-    subst (λ (x : List ℕ). Right (core_terms x) (record_of s) (at_end_of s)) (mark_run steps (start mark)) (right_reached s (mark, (steps, (is_fit mark m, refl))))
+drained_played : (pairs : List Pair) → fault_of pairs ≡ None → (steps : List Step) → (at : ℕ) (l : LinkRecord) (e : Ended) → slice_get (Played (framing_of pairs) steps).links at ≡ Some l → l.state ≡ Over e → Drained (core_terms (framing_of pairs)) (Played (framing_of pairs) steps)
+drained_played pairs free steps at l e there over =
+    let s : State = run steps (start (framing_of pairs)) in
+    subst (λ (x : Framing). Drained (core_terms x) (record_of s)) (framing_run steps (start (framing_of pairs))) (drained_reached s (framing_of pairs, (steps, (framing_fits pairs free, refl))) at l e there over)
 
-drained_played : (mark : List ℕ) → IsMark mark → (steps : List Step) → (at : ℕ) (l : LinkRecord) (e : Ended) → slice_get (Played mark steps).links at ≡ Some l → l.state ≡ Over e → Drained (core_terms mark) (Played mark steps)
-drained_played mark m steps at l e there over =
-    let s : State = run steps (start mark) in
-    subst (λ (x : List ℕ). Drained (core_terms x) (record_of s)) (mark_run steps (start mark)) (drained_reached s (mark, (steps, (is_fit mark m, refl))) at l e there over)
-
-right_answer : (input text : List ℕ) (r : Result Drill ℕ) → r ≡ drill_of input → answered r ≡ Ok text → IsRightText text
-right_answer input text (Err n) e a = absurd cc
-right_answer input text (Ok d) e a =
-    let m : IsMark d.mark = marked_by input (Ok d) e in
-    let t : drill_text d ≡ text = cc in
+right_by : (text : List ℕ) (d : Drill) (o : Option SettingsFault) → fault_of d.pairs ≡ o → played_or d o ≡ Ok text → IsRightText text
+right_by text d (Some fault) e a = absurd cc
+right_by text d None e a =
+    let t : drill_text d.pairs d.lines ≡ text = cc in
     record {
-      mark = d.mark;
+      pairs = d.pairs;
+      settled = e;
       steps = steps_of d.lines;
-      printed = sym t ∙ drilled d;
-      right = right_played d.mark m (steps_of d.lines);
-      drained = drained_played d.mark m (steps_of d.lines);
+      printed = sym t ∙ drilled d.pairs d.lines;
+      right = right_played d.pairs e (steps_of d.lines);
+      drained = drained_played d.pairs e (steps_of d.lines);
     }
+
+right_answer : (text : List ℕ) (r : Result Drill ℕ) → answered r ≡ Ok text → IsRightText text
+right_answer text (Err n) a = absurd cc
+right_answer text (Ok d) a = right_by text d (fault_of d.pairs) refl a
 
 -- what was written at Ok is such a text
 pub prints_right : (words : List (List ℕ)) (s : FromSource) (k : FromSink) (result : Status) → Said words s k result → PrintsRight words s k result
-prints_right words s k statuses.Ok h = (h.0, h.1, right_answer h.1.1.0 h.0 (drill_of h.1.1.0) refl h.1.1.2, h.2)
+prints_right words s k statuses.Ok h = (h.0, h.1, right_answer h.0 (drill_of h.1.1.0) h.1.1.2, h.2)
 prints_right words s k (statuses.BadLine n) h = tt
+prints_right words s k (statuses.Settings fault) h = tt
 prints_right words s k statuses.InputLong h = tt
 prints_right words s k statuses.Usage h = tt
 prints_right words s k statuses.ReadFault h = tt

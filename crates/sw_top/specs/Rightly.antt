@@ -1,5 +1,5 @@
 -- What a user relies on, of the record that is printed.
-use Rattle.std.specs.Prelude.{◌≡◌, ℕ, List, slice_get, Some}
+use Rattle.std.specs.Prelude.{◌≡◌, ℕ, List, slice_get, Some, None}
 use Rattle.sw_data.specs.declared.ended.Ended.{Ended}
 use Rattle.sw_record.specs.declared.step.Step.{Step}
 use Rattle.sw_record.specs.declared.record.LinkRecord.{LinkRecord}
@@ -7,6 +7,9 @@ use Rattle.sw_record.specs.declared.record.LinkState.TheVariants.{Over}
 use Rattle.sw_record.specs.Ends.{Drained}
 use Rattle.sw_record.specs.Right.{Right}
 use Rattle.sw_drill.specs.Print.{record_text}
+use Rattle.sw_settings.specs.declared.pair.Pair.{Pair}
+use Rattle.sw_settings.specs.Faults.{fault_of}
+use Rattle.sw_settings.specs.Framings.{framing_of}
 use Rattle.sw_laws.specs.Joint.{core_terms}
 use Rattle.sw_world.specs.Steps.{start, run}
 use Rattle.sw_world.specs.Account.{at_end_of}
@@ -15,18 +18,21 @@ use Rattle.sw_top.specs.declared.status.Status.{Status}
 use Rattle.sw_top.specs.declared.status.Status.TheVariants as statuses
 use Rattle.sw_top.specs.Says.{FromSource, FromSink, Meant, IsWritten}
 
--- the text is that of a record that was played; the record is right, and drained once its link is over
+-- the text is that of a record that was played by settings without a fault; the record is right, and drained once its link is
+-- over
 pub record IsRightText (text : List ℕ) : Type 0 where
-  pub mark : List ℕ
+  pub pairs : List Pair
+  pub settled : fault_of pairs ≡ None
   pub steps : List Step
-  pub printed : text ≡ record_text (Played mark steps)
-  pub right : Right (core_terms mark) (Played mark steps) (at_end_of (run steps (start mark)))
-  pub drained : (at : ℕ) (l : LinkRecord) (e : Ended) → slice_get (Played mark steps).links at ≡ Some l → l.state ≡ Over e → Drained (core_terms mark) (Played mark steps)
+  pub printed : text ≡ record_text (Played (framing_of pairs) steps)
+  pub right : Right (core_terms (framing_of pairs)) (Played (framing_of pairs) steps) (at_end_of (run steps (start (framing_of pairs))))
+  pub drained : (at : ℕ) (l : LinkRecord) (e : Ended) → slice_get (Played (framing_of pairs) steps).links at ≡ Some l → l.state ≡ Over e → Drained (core_terms (framing_of pairs)) (Played (framing_of pairs) steps)
 
 -- at Ok the text that was meant and written is such a text
 abbrev pub PrintsRight : List (List ℕ) → FromSource → FromSink → Status → Type 0
 PrintsRight words s k statuses.Ok = (text : List ℕ) × Meant words s statuses.Ok text × IsRightText text × IsWritten k text
 PrintsRight words s k (statuses.BadLine n) = Unit {0}
+PrintsRight words s k (statuses.Settings fault) = Unit {0}
 PrintsRight words s k statuses.InputLong = Unit {0}
 PrintsRight words s k statuses.Usage = Unit {0}
 PrintsRight words s k statuses.ReadFault = Unit {0}

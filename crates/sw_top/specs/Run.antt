@@ -1,4 +1,9 @@
-use Rattle.std.specs.Prelude.{ℕ, List, [], ◌∷◌, Result, Ok, Err}
+use Rattle.std.specs.Prelude.{ℕ, List, [], ◌∷◌, Option, Some, None, Result, Ok, Err}
+use Rattle.sw_settings.specs.declared.pair.Pair.{Pair}
+use Rattle.sw_settings.specs.declared.faults.SettingsFault.{SettingsFault}
+use Rattle.sw_settings.specs.Faults.{fault_of}
+use Rattle.sw_settings.specs.Framings.{framing_of}
+use Rattle.sw_drill.specs.declared.schedule.Line.{Line as Lines}
 use Rattle.sw_drill.specs.declared.schedule.Drill.{Drill}
 use Rattle.sw_drill.specs.Draft.{drill_of}
 use Rattle.sw_drill.specs.Steps.{steps_of}
@@ -7,6 +12,8 @@ use Rattle.sw_record.specs.declared.step.Step.{Step}
 use Rattle.sw_world.specs.declared.state.State.{State}
 use Rattle.sw_world.specs.Steps.{start, next}
 use Rattle.sw_world.specs.Account.{record_of}
+use Rattle.sw_top.specs.declared.refusal.Refusal.{Refusal}
+use Rattle.sw_top.specs.declared.refusal.Refusal.TheVariants.{Line, Settings}
 
 -- one step of the core
 unfoldable pub stepped : Step → State → State
@@ -18,26 +25,31 @@ played [] s = s
 played (x ∷ xs) s = played xs (stepped x s)
 
 -- the core before its first step
-unfoldable pub fresh : List ℕ → State
-fresh mark = start mark
+unfoldable pub fresh : List Pair → State
+fresh pairs = start (framing_of pairs)
 
 -- the text of what happened so far
 unfoldable pub account_text : State → List ℕ
 account_text s = record_text (record_of s)
 
--- the text that a drill leads to: that of a core that starts fresh and takes the drill's steps
-abbrev pub drill_text : Drill → List ℕ
-drill_text d = account_text (played (steps_of d.lines) (fresh d.mark))
+-- the text that settings and lines lead to: that of a core that starts fresh and takes the lines' steps
+abbrev pub drill_text : List Pair → List Lines → List ℕ
+drill_text pairs ls = account_text (played (steps_of ls) (fresh pairs))
 
--- what is written for an input, or the number of its bad line
-abbrev pub answered : Result Drill ℕ → Result (List ℕ) ℕ
-answered (Ok d) = Ok (drill_text d)
-answered (Err n) = Err n
+-- what is written for a drill, or the fault of its settings
+abbrev pub played_or : Drill → Option SettingsFault → Result (List ℕ) Refusal
+played_or d None = Ok (drill_text d.pairs d.lines)
+played_or d (Some fault) = Err (Settings fault)
 
-abbrev pub answer_of : List ℕ → Result (List ℕ) ℕ
+-- what is written for what was read, or why it is refused: a line out of the grammar comes before any fault of the settings
+abbrev pub answered : Result Drill ℕ → Result (List ℕ) Refusal
+answered (Ok d) = played_or d (fault_of d.pairs)
+answered (Err n) = Err (Line n)
+
+abbrev pub answer_of : List ℕ → Result (List ℕ) Refusal
 answer_of input = answered (drill_of input)
 
 -- what a result says, with the text seen as bytes
-abbrev pub text_seen : {S : Type 0} → (S → List ℕ) → Result S ℕ → Result (List ℕ) ℕ
+abbrev pub text_seen : {S : Type 0} → (S → List ℕ) → Result S Refusal → Result (List ℕ) Refusal
 text_seen view (Ok s) = Ok (view s)
-text_seen view (Err n) = Err n
+text_seen view (Err refusal) = Err refusal

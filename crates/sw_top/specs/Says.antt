@@ -1,11 +1,14 @@
-use Rattle.std.specs.Prelude.{◌≡◌, ℕ, ◌≤◌, ◌<◌, ◌++◌, List, codes, length, take, Option, Some, Bool, true, false, Result, Ok, Err, ◌⊎◌}
-use Rattle.std.specs.Fmt.{decimal}
+use Rattle.std.specs.Prelude.{◌≡◌, ℕ, ◌≤◌, ◌<◌, ◌++◌, List, codes, length, take, Option, Some, None, Bool, true, false, Result, Ok, Err, ◌⊎◌}
 use Rattle.std.specs.Prelude.{string_bytes}
 use Rattle.std.specs.Io.KnownBytes.{Consumes, Appends, IsAtEnd}
 use Rattle.sw_causes.specs.Causes.{Rises}
 use Rattle.sw_causes.specs.Whole.{Came, limit}
 use Rattle.sw_top.specs.Words.{drill_words}
 use Rattle.sw_top.specs.Run.{answer_of}
+use Rattle.sw_top.specs.Refusals.{line_text, settings_text}
+use Rattle.sw_top.specs.declared.refusal.Refusal.TheVariants.{Line, Settings}
+use Rattle.sw_settings.specs.declared.faults.SettingsFault.{SettingsFault}
+use Rattle.sw_settings.specs.Faults.{fault_of}
 use Rattle.sw_drill.specs.declared.schedule.Drill.{Drill}
 use Rattle.sw_drill.specs.Draft.{drill_of}
 use Rattle.sw_top.specs.declared.status.Status.{Status}
@@ -33,14 +36,14 @@ pub record IsInput (s : FromSource) (input : List ℕ) : Type 0 where
 -- what comes of an input that was read whole
 abbrev pub Answers : List ℕ → Outcome → Type 0
 Answers input (outcomes.Done text) = answer_of input ≡ Ok (string_bytes text)
-Answers input (outcomes.Bad n) = answer_of input ≡ Err n
+Answers input (outcomes.Refused refusal) = answer_of input ≡ Err refusal
 Answers input outcomes.Long = ⊥
 Answers input outcomes.Fault = ⊥
 Answers input outcomes.Memory = Unit {0}
 
 abbrev pub Comes : FromSource → Outcome → Type 0
 Comes s (outcomes.Done text) = (input : List ℕ) × IsInput s input × (answer_of input ≡ Ok (string_bytes text))
-Comes s (outcomes.Bad n) = (input : List ℕ) × IsInput s input × (answer_of input ≡ Err n)
+Comes s (outcomes.Refused refusal) = (input : List ℕ) × IsInput s input × (answer_of input ≡ Err refusal)
 Comes s outcomes.Long = Came s.left s.left_new (λ n. limit < n)
 Comes s outcomes.Fault = Came s.left s.left_new (λ n. n ≤ limit) × Rises s.faults s.faults_new
 Comes s outcomes.Memory = Unit {0}
@@ -65,6 +68,7 @@ IsCut k text = ((n : ℕ) × (n < length text) × IsWritten k (take n text)) × 
 abbrev pub cut_status : Status → Status
 cut_status statuses.Ok = statuses.WriteFault
 cut_status (statuses.BadLine n) = statuses.WriteFault
+cut_status (statuses.Settings fault) = statuses.WriteFault
 cut_status statuses.InputLong = statuses.WriteFault
 cut_status statuses.Usage = statuses.WriteFault
 cut_status statuses.ReadFault = statuses.WriteFault
@@ -80,7 +84,8 @@ Finishes k status text result = ((result ≡ status) × IsWritten k text) ⊎ ((
 -- the status and the text that are right for the words and the input
 abbrev pub Meant : List (List ℕ) → FromSource → Status → List ℕ → Type 0
 Meant words s statuses.Ok text = (drill_words words ≡ true) × ((input : List ℕ) × IsInput s input × (answer_of input ≡ Ok text))
-Meant words s (statuses.BadLine n) text = (drill_words words ≡ true) × ((input : List ℕ) × IsInput s input × (answer_of input ≡ Err n)) × (text ≡ codes "fault line " ++ decimal n ++ codes "\n")
+Meant words s (statuses.BadLine n) text = (drill_words words ≡ true) × ((input : List ℕ) × IsInput s input × (answer_of input ≡ Err (Line n))) × (text ≡ line_text n)
+Meant words s (statuses.Settings fault) text = (drill_words words ≡ true) × ((input : List ℕ) × IsInput s input × (answer_of input ≡ Err (Settings fault))) × (text ≡ settings_text fault)
 Meant words s statuses.InputLong text = (drill_words words ≡ true) × Came s.left s.left_new (λ n. limit < n) × (text ≡ codes "fault long\n")
 Meant words s statuses.Usage text = (drill_words words ≡ false) × (text ≡ codes "fault usage\n")
 Meant words s statuses.ReadFault text = (drill_words words ≡ true) × Came s.left s.left_new (λ n. n ≤ limit) × Rises s.faults s.faults_new × (text ≡ codes "fault read\n")
@@ -95,15 +100,20 @@ Does words s k result = (status : Status) × (text : List ℕ) × Meant words s 
 abbrev pub Said : List (List ℕ) → FromSource → FromSink → Status → Type 0
 Said words s k statuses.Ok = (text : List ℕ) × Meant words s statuses.Ok text × IsWritten k text
 Said words s k (statuses.BadLine n) = (text : List ℕ) × Meant words s (statuses.BadLine n) text × IsWritten k text
+Said words s k (statuses.Settings fault) = (text : List ℕ) × Meant words s (statuses.Settings fault) text × IsWritten k text
 Said words s k statuses.InputLong = (text : List ℕ) × Meant words s statuses.InputLong text × IsWritten k text
 Said words s k statuses.Usage = (text : List ℕ) × Meant words s statuses.Usage text × IsWritten k text
 Said words s k statuses.ReadFault = (text : List ℕ) × Meant words s statuses.ReadFault text × IsWritten k text
 Said words s k statuses.WriteFault = (status : Status) × (text : List ℕ) × Meant words s status text × IsCut k text
 Said words s k statuses.OutOfMemory = (text : List ℕ) × Meant words s statuses.OutOfMemory text × (IsWritten k text ⊎ IsCut k text)
 
+abbrev pub expected_by : Option SettingsFault → Status
+expected_by None = statuses.Ok
+expected_by (Some fault) = statuses.Settings fault
+
 -- the status of a text that was read whole
 abbrev pub expected : Result Drill ℕ → Status
-expected (Ok d) = statuses.Ok
+expected (Ok d) = expected_by (fault_of d.pairs)
 expected (Err n) = statuses.BadLine n
 
 -- without a fault, an input that isn't too long is answered by its text alone, unless memory runs out

@@ -6,6 +6,7 @@ use Rattle.sw_top.specs.declared.status.Status.TheVariants as statuses
 abbrev pub status_number : Status → ℕ
 status_number statuses.Ok = 0
 status_number (statuses.BadLine n) = 1
+status_number (statuses.Settings f) = 1
 status_number statuses.InputLong = 1
 status_number statuses.Usage = 2
 status_number statuses.ReadFault = 3

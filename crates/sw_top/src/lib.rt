@@ -4,6 +4,7 @@
 
 mod command;
 mod playing;
+mod refusal;
 mod status;
 mod word;
 

@@ -2,22 +2,21 @@
 
 ghost use Rattle.std.specs.Prelude.{◌≡◌, ℕ, ◌<◌, ◌≤◌, length, replicate, OnOk, IfOk, string_bytes};
 ghost use Rattle.sw_record.specs.declared.step.Step.TheVariants.{Turn};
-ghost use Rattle.sw_drill.specs.Fields.{IsMark};
 ghost use Rattle.sw_drill.specs.Steps.{round, rounds, steps_of_line, steps_of};
 ghost use Rattle.sw_top.specs.Run.{stepped, played, fresh, account_text, drill_text};
 
 use std::alloc::Global;
-use sw_data::{Octets, OutOfMemory};
-use sw_drill::{Drill, Line, Lines, print};
+use sw_data::OutOfMemory;
+use sw_drill::{Line, Lines, print};
 use sw_record::{ActorId, Step};
+use sw_settings::Settings;
 use sw_world::World;
 
 #[tactic(auto, unfolding(crate::specs::Run::fresh))]
-fn make(alloc: Global, mark: Octets) -> Result<World, OutOfMemory>
-    requires { IsMark mark }
-    ensures { IfOk result (λ w. w ≡ fresh mark) }
+fn make(alloc: Global, settings: &Settings) -> Result<World, OutOfMemory>
+    ensures { IfOk result (λ w. w ≡ fresh settings.now) }
 {
-    World::make(alloc, mark)
+    World::make(alloc, settings)
 }
 
 #[tactic(auto, unfolding(crate::specs::Run::stepped))]
@@ -82,12 +81,11 @@ fn account(alloc: Global, world: &World) -> Result<String, OutOfMemory>
     print(alloc, &so_far)
 }
 
-/// The text of the record that a drill leads to. Only want of memory makes it answer an error.
-pub fn drill(alloc: Global, drill: Drill) -> Result<String, OutOfMemory>
-    requires { IsMark drill.mark }
-    ensures { IfOk result (λ text. string_bytes text ≡ drill_text drill) }
+/// The text of the record that these lines lead to. Only want of memory makes it answer an error.
+pub fn played(alloc: Global, settings: &Settings, lines: Lines) -> Result<String, OutOfMemory>
+    ensures { IfOk result (λ text. string_bytes text ≡ drill_text settings.now lines) }
 {
-    let mut world = make(alloc, drill.mark)?;
-    play(&mut world, drill.lines)?;
+    let mut world = make(alloc, settings)?;
+    play(&mut world, lines)?;
     account(alloc, &world)
 }

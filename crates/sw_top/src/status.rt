@@ -1,13 +1,17 @@
 ghost use Rattle.std.specs.Prelude.{◌≡◌};
 ghost use Rattle.sw_top.specs.Statuses.{status_number};
 
+use sw_settings::SettingsFault;
+
 /// How a command ended.
-#[derive(Clone, Copy, Debug, PartialEq, Eq)]
+#[derive(Drop, Debug)]
 pub enum Status {
     /// The command's output was written.
     Ok,
-    /// The line of this number, from 1, is the input's first that isn't in the grammar or is missing.
+    /// The line of this number, from 1, is the input's first that isn't in the grammar.
     BadLine(u64),
+    /// Each line is in the grammar, and the settings are refused for this reason, the first that applies.
+    Settings(SettingsFault),
     /// More than 67,108,864 bytes came.
     InputLong,
     /// The words name no command.
@@ -28,6 +32,7 @@ impl Status {
         match self {
             Status::Ok => 0,
             Status::BadLine(_) => 1,
+            Status::Settings(_) => 1,
             Status::InputLong => 1,
             Status::Usage => 2,
             Status::ReadFault => 3,

@@ -4,6 +4,7 @@ use super::*;
 use std::alloc::Global;
 use std::test::Fail;
 use sw_causes::{MemorySink, MemorySource, ReadGot, Source, SureSource};
+use sw_settings::SettingsFault;
 
 const FIRST: &str = "set open_eof_split true
 set package_eof x0d0a
@@ -45,7 +46,7 @@ fn drill(alloc: Global, input: &str) -> Result<(Status, Vec<u8>), Fail> {
 #[test]
 fn the_first_run(rt: HostRuntime) -> Result<(), Fail> {
     let (status, text) = drill(rt.alloc(), FIRST)?;
-    assert_eq!(rt; status, Status::Ok);
+    assert!(rt; matches!(status, Status::Ok));
     assert_eq!(rt; text.as_slice(), FIRST_TEXT.as_bytes());
     Ok(())
 }
@@ -72,7 +73,7 @@ w0 sent -> done
 w0 closed 1 -> done
 ";
     let (status, text) = drill(rt.alloc(), input)?;
-    assert_eq!(rt; status, Status::Ok);
+    assert!(rt; matches!(status, Status::Ok));
     assert_eq!(rt; text.as_slice(), want.as_bytes());
     Ok(())
 }
@@ -81,11 +82,11 @@ w0 closed 1 -> done
 fn a_schedule_without_turns(rt: HostRuntime) -> Result<(), Fail> {
     let head = "set open_eof_split true\nset package_eof x0d0a";
     let (status, text) = drill(rt.alloc(), head)?;
-    assert_eq!(rt; status, Status::Ok);
+    assert!(rt; matches!(status, Status::Ok));
     assert_eq!(rt; text.len(), 0);
     let opened = format!(in rt.alloc(); "{head}\nopen 127.0.0.1\ndata 0 61\nturn r0")?;
     let (status, text) = drill(rt.alloc(), &opened)?;
-    assert_eq!(rt; status, Status::Ok);
+    assert!(rt; matches!(status, Status::Ok));
     assert_eq!(rt; text.as_slice(), b"link 0 waiting\n".as_slice());
     Ok(())
 }
@@ -93,24 +94,60 @@ fn a_schedule_without_turns(rt: HostRuntime) -> Result<(), Fail> {
 #[test]
 fn lines_out_of_the_grammar(rt: HostRuntime) -> Result<(), Fail> {
     let inputs = [
-        ("", 1),
         ("data 0 61", 1),
-        ("set package_eof x0d0a\n", 1),
         ("set open_eof_split true\r\nset package_eof x0d0a\n", 1),
-        ("set open_eof_split true\n", 2),
-        ("set open_eof_split true\nopen 127.0.0.1\n", 2),
         ("set open_eof_split true\nset package_eof x\n", 2),
-        (
-            "set open_eof_split true\nset package_eof x010203040506070809\n",
-            2,
-        ),
+        ("set package_eof x0d0a\nset package_eof x0d0a\n", 2),
+        ("open 127.0.0.1\nset open_eof_split false\n", 2),
+        ("set zz 1\nset open_eof_split true\nrun 0\n", 3),
     ];
     for (input, line) in inputs {
         let (status, text) = drill(rt.alloc(), input)?;
-        assert_eq!(rt; status, Status::BadLine(line), "at {input}");
+        assert!(rt;
+            matches!(status, Status::BadLine(n) if n == line),
+            "at {input}"
+        );
         let want = format!(in rt.alloc(); "fault line {line}\n")?;
         assert_eq!(rt; text.as_slice(), want.as_bytes(), "at {input}");
     }
+    Ok(())
+}
+
+#[test]
+fn refused_settings(rt: HostRuntime) -> Result<(), Fail> {
+    let inputs = [
+        ("set zz 1", "unknown x7a7a"),
+        ("set package_max_length 0\nset zz 1", "unknown x7a7a"),
+        ("set package_eof 13", "type package_eof"),
+        (
+            "set package_max_length 8388609",
+            "range package_max_length 1 8388608",
+        ),
+        ("set package_eof =", "range package_eof 1 8"),
+        ("set open_eof_split true", "missing package_eof"),
+        (
+            "set open_length_check true\nrun 1",
+            "missing package_length_type",
+        ),
+        (
+            "set open_eof_split true\nset open_length_check true\nset package_eof x0a\nset package_length_type =N",
+            "conflict open_eof_split open_length_check",
+        ),
+    ];
+    for (input, reason) in inputs {
+        let (status, text) = drill(rt.alloc(), input)?;
+        assert!(rt; matches!(status, Status::Settings(_)), "at {input}");
+        let want = format!(in rt.alloc(); "fault settings {reason}\n")?;
+        assert_eq!(rt; text.as_slice(), want.as_bytes(), "at {input}");
+    }
+    Ok(())
+}
+
+#[test]
+fn an_empty_input(rt: HostRuntime) -> Result<(), Fail> {
+    let (status, text) = drill(rt.alloc(), "")?;
+    assert!(rt; matches!(status, Status::Ok));
+    assert_eq!(rt; text.len(), 0);
     Ok(())
 }
 
@@ -137,7 +174,7 @@ fn schedule_lines_out_of_the_grammar(rt: HostRuntime) -> Result<(), Fail> {
             "set open_eof_split true\nset package_eof x0d0a\nopen 127.0.0.1\n{line}\nrun 1\n"
         )?;
         let (status, text) = drill(rt.alloc(), &input)?;
-        assert_eq!(rt; status, Status::BadLine(4), "at {line}");
+        assert!(rt; matches!(status, Status::BadLine(4)), "at {line}");
         assert_eq!(rt; text.as_slice(), b"fault line 4\n".as_slice(), "at {line}");
     }
     Ok(())
@@ -155,10 +192,10 @@ fn command(alloc: Global, texts: &[&str]) -> Result<(Status, Vec<u8>), Fail> {
 #[test]
 fn other_words(rt: HostRuntime) -> Result<(), Fail> {
     let (status, text) = command(rt.alloc(), &["drill", "extra"])?;
-    assert_eq!(rt; status, Status::Usage);
+    assert!(rt; matches!(status, Status::Usage));
     assert_eq!(rt; text.as_slice(), b"fault usage\n".as_slice());
     let (status, text) = command(rt.alloc(), &["serve"])?;
-    assert_eq!(rt; status, Status::Usage);
+    assert!(rt; matches!(status, Status::Usage));
     assert_eq!(rt; text.as_slice(), b"fault usage\n".as_slice());
     Ok(())
 }
@@ -177,7 +214,7 @@ fn with_faults(alloc: Global, reads: &[u64], writes: &[u64]) -> Result<(Status, 
 fn a_read_fails(rt: HostRuntime) -> Result<(), Fail> {
     for read in [0, 1] {
         let (status, text) = with_faults(rt.alloc(), &[read], &[])?;
-        assert_eq!(rt; status, Status::ReadFault);
+        assert!(rt; matches!(status, Status::ReadFault));
         assert_eq!(rt; text.as_slice(), b"fault read\n".as_slice());
     }
     Ok(())
@@ -186,10 +223,10 @@ fn a_read_fails(rt: HostRuntime) -> Result<(), Fail> {
 #[test]
 fn a_write_fails(rt: HostRuntime) -> Result<(), Fail> {
     let (status, text) = with_faults(rt.alloc(), &[], &[0])?;
-    assert_eq!(rt; status, Status::WriteFault);
+    assert!(rt; matches!(status, Status::WriteFault));
     assert_eq!(rt; text.len(), 0);
     let (status, text) = with_faults(rt.alloc(), &[0], &[0])?;
-    assert_eq!(rt; status, Status::WriteFault);
+    assert!(rt; matches!(status, Status::WriteFault));
     assert_eq!(rt; text.len(), 0);
     Ok(())
 }
@@ -216,10 +253,8 @@ impl Source for Endless {
 fn too_much_comes(rt: HostRuntime) -> Result<(), Fail> {
     let words = words_of(rt.alloc(), &["drill"])?;
     let mut sink = MemorySink::new(rt.alloc(), Vec::new(rt.alloc()));
-    assert_eq!(rt;
-        tool(rt.alloc(), &words, &mut Endless, &mut sink),
-        Status::InputLong
-    );
+    let status = tool(rt.alloc(), &words, &mut Endless, &mut sink);
+    assert!(rt; matches!(status, Status::InputLong));
     assert_eq!(rt; sink.bytes(), b"fault long\n".as_slice());
     Ok(())
 }
@@ -229,6 +264,7 @@ fn numbers(rt: HostRuntime) {
     let statuses = [
         (Status::Ok, 0),
         (Status::BadLine(7), 1),
+        (Status::Settings(SettingsFault::OutOfMemory), 1),
         (Status::InputLong, 1),
         (Status::Usage, 2),
         (Status::ReadFault, 3),

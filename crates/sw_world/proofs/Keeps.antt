@@ -34,10 +34,10 @@ use Rattle.sw_laws.specs.ReactorLaw.{Serves, Quiet, QuietAfter}
 use Rattle.sw_laws.specs.Said.{said_all}
 use Rattle.sw_laws.specs.WorkerLaw.{StageHolds, WorkerGot, WorkerAsked, WorkerShows}
 use Rattle.sw_laws.proofs.Messages.{fresh_in_more, from_worker-append, events_in_append, AllNew-append}
+use Rattle.sw_frame.specs.declared.framing.Framing.{Framing}
 use Rattle.sw_frame.specs.Cut.{IsFit}
-use Rattle.sw_conn.specs.Framed.{framing_of}
 use Rattle.sw_laws.proofs.ReactorKeeps.{reactor_keeps}
-use Rattle.sw_world.proofs.Start.{mark_settled, mark_next}
+use Rattle.sw_world.proofs.Start.{framing_settled, framing_next}
 use Rattle.sw_laws.proofs.WorkerKeeps.{worker_keeps, worker_takes, worker_pushes, got_shows, asked_shows}
 use Rattle.sw_world.specs.Pipes.{took_of, left_of}
 use Rattle.sw_world.specs.Steps.{arrive_by, has_arrived, push_got, push_left, door_turned, door_goes, reactor_turned, reactor_goes, worker_turned, worker_goes, turned, next, run}
@@ -83,11 +83,11 @@ one_fresh s h l =
     record { one = omega (arith, length-append (fresh_in h.reactor_took) rest); new = l.new.0 }
 
 -- the first message that the reactor takes brings the link, as no worker said a thing before
-no_events : (mark : List ℕ) (conn : Option Conn) (over : Option Over) (taken : List (Msg Link ℕ)) (es : List Event) → Serves mark conn over taken es → taken ≡ [] → es ≡ []
-no_events mark None None taken es h e = h.1
-no_events mark (Some c) None taken es h e = let k : ◌≡◌ {A = List (ℕ × ℕ)} [] ((c.ip, c.session) ∷ []) = sym (ap fresh_in e) ∙ h.fed.came in absurd (cc)
-no_events mark None (Some o) taken es h e = let k : ◌≡◌ {A = List (ℕ × ℕ)} [] ((h.ip, h.session) ∷ []) = sym (ap fresh_in e) ∙ h.came in absurd (cc)
-no_events mark (Some c) (Some o) taken es h e = absurd h
+no_events : (framing : Framing) (conn : Option Conn) (over : Option Over) (taken : List (Msg Link ℕ)) (es : List Event) → Serves framing conn over taken es → taken ≡ [] → es ≡ []
+no_events framing None None taken es h e = h.1
+no_events framing (Some c) None taken es h e = let k : ◌≡◌ {A = List (ℕ × ℕ)} [] ((c.ip, c.session) ∷ []) = sym (ap fresh_in e) ∙ h.fed.came in absurd (cc)
+no_events framing None (Some o) taken es h e = let k : ◌≡◌ {A = List (ℕ × ℕ)} [] ((h.ip, h.session) ∷ []) = sym (ap fresh_in e) ∙ h.came in absurd (cc)
+no_events framing (Some c) (Some o) taken es h e = absurd h
 
 no_log : (log : List (Given × Act)) → DialogueAfter Done log → events_of log ≡ [] → log ≡ []
 no_log [] d e = refl
@@ -118,18 +118,18 @@ led_more (EventMsg e ∷ xs) m h f = absurd h
 
 led_by : (s : State) (h : History) → HasHistory s h → Quiet (settled s.reactor Empty) h.reactor_took h.reactor_pushed → (m : Msg Link ℕ) (ms : List (Msg Link ℕ)) → s.to_reactor ≡ m ∷ ms → h.reactor_took ≡ [] → IsLed (m ∷ [])
 led_by s h l q m ms is e =
-    let none : h.reactor_pushed ≡ [] = no_events s.reactor.mark s.reactor.conn s.reactor.over h.reactor_took h.reactor_pushed (q (one_fresh s h l)) e in
+    let none : h.reactor_pushed ≡ [] = no_events s.reactor.framing s.reactor.conn s.reactor.over h.reactor_took h.reactor_pushed (q (one_fresh s h l)) e in
     let untold : events_in h.worker_took ≡ [] = (append_none (events_in h.worker_took) (events_in s.to_worker) (l.to_worker ∙ none)).0 in
     let unsaid : h.worker_pushed ≡ [] = silent s.worker.log h.worker_took h.worker_pushed (worker_shows s.worker s.worker_next h.worker_took h.worker_pushed l.worker) untold in
     let after : from_worker s.to_reactor ≡ [] = (append_none (from_worker h.reactor_took) (from_worker s.to_reactor) (l.to_reactor ∙ unsaid)).1 in
     led_first m (from_worker ms) (ap from_worker (sym is) ∙ after)
 
 -- a turn of the reactor
-reactor_turned_keeps : (s : State) (h : History) (got : Got (Msg Link ℕ)) → IsFit (framing_of s.reactor.mark) → HasHistory s h → ReactorPart s.reactor (Gave got) h.reactor_took h.reactor_pushed → Law (reactor_turned s got)
+reactor_turned_keeps : (s : State) (h : History) (got : Got (Msg Link ℕ)) → IsFit s.reactor.framing → HasHistory s h → ReactorPart s.reactor (Gave got) h.reactor_took h.reactor_pushed → Law (reactor_turned s got)
 reactor_turned_keeps s h got fit l q = (
   h,
   record {
-    reactor = reactor_keeps (settled s.reactor got) (subst (λ (m : List ℕ). IsFit (framing_of m)) (sym (mark_settled s.reactor got)) fit) h.reactor_took h.reactor_pushed (script_read 8192 s.script) q;
+    reactor = reactor_keeps (settled s.reactor got) (subst (λ (f : Framing). IsFit f) (sym (framing_settled s.reactor got)) fit) h.reactor_took h.reactor_pushed (script_read 8192 s.script) q;
     worker = l.worker;
     door = l.door;
     to_worker = l.to_worker;
@@ -222,7 +222,7 @@ reactor_pushes s h t (Fresh k ip n) l q = absurd q
 reactor_pushes s h t (Send k b) l q = absurd q
 reactor_pushes s h t (Bye k) l q = absurd q
 
-reactor_step_keeps : (s : State) (h : History) (p : Pending) → IsFit (framing_of s.reactor.mark) → HasHistory s h → ReactorPart s.reactor p h.reactor_took h.reactor_pushed → Law (reactor_goes s p)
+reactor_step_keeps : (s : State) (h : History) (p : Pending) → IsFit s.reactor.framing → HasHistory s h → ReactorPart s.reactor p h.reactor_took h.reactor_pushed → Law (reactor_goes s p)
 reactor_step_keeps s h (Gave got) fit l q = reactor_turned_keeps s h got fit l q
 reactor_step_keeps s h (Asked Take) fit l q = reactor_takes s h l q s.to_reactor refl
 reactor_step_keeps s h (Asked (Push t m)) fit l q = reactor_pushes s h t m l q
@@ -479,18 +479,18 @@ law_if : (b : Bool) (s t : State) → Law s → Law t → Law (if b then s else 
 law_if true s t g h = g
 law_if false s t g h = h
 
-turned_keeps : (s : State) (a : ActorId) → IsFit (framing_of s.reactor.mark) → Law s → Law (turned s a)
+turned_keeps : (s : State) (a : ActorId) → IsFit s.reactor.framing → Law s → Law (turned s a)
 turned_keeps s Door fit l = door_step_keeps s l.0 s.door_next l.1 refl l.1.door
 turned_keeps s (Reactor k) fit l = law_if (k == 0) (reactor_goes s s.reactor_next) s (reactor_step_keeps s l.0 s.reactor_next fit l.1 l.1.reactor) l
 turned_keeps s (Worker k) fit l = law_if (k == 0) (worker_goes s s.worker_next) s (worker_step_keeps s l.0 s.worker_next l.1 l.1.worker) l
 
 -- each step keeps what the actors and the pipes keep together
-pub next_keeps : (s : State) (step : Step) → IsFit (framing_of s.reactor.mark) → Law s → Law (next s step)
+pub next_keeps : (s : State) (step : Step) → IsFit s.reactor.framing → Law s → Law (next s step)
 next_keeps s (Arrive ip) fit l = arrives s l.0 ip l.1 s.arrived refl
 next_keeps s (Piece link piece) fit l = law_if (link == 0) _ s (law_if (has_arrived s.arrived) _ s (law_if s.script.ended s _ l (law_script s _ l)) l) l
 next_keeps s (End link) fit l = law_if (link == 0) _ s (law_if (has_arrived s.arrived) _ s (law_script s _ l) l) l
 next_keeps s (Turn a) fit l = turned_keeps s a fit l
 
-pub run_keeps : (steps : List Step) (s : State) → IsFit (framing_of s.reactor.mark) → Law s → Law (run steps s)
+pub run_keeps : (steps : List Step) (s : State) → IsFit s.reactor.framing → Law s → Law (run steps s)
 run_keeps [] s fit l = l
-run_keeps (step ∷ steps) s fit l = run_keeps steps (next s step) (subst (λ (m : List ℕ). IsFit (framing_of m)) (sym (mark_next s step)) fit) (next_keeps s step fit l)
+run_keeps (step ∷ steps) s fit l = run_keeps steps (next s step) (subst (λ (f : Framing). IsFit f) (sym (framing_next s step)) fit) (next_keeps s step fit l)

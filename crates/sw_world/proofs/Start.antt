@@ -7,6 +7,7 @@ use Rattle.sw_data.specs.declared.messages.Target.{Target}
 use Rattle.sw_data.specs.declared.messages.Target.TheVariants.{Reactor as ToReactor, Worker as ToWorker}
 use Rattle.sw_data.specs.declared.messages.Got.{Got}
 use Rattle.sw_data.specs.declared.messages.Got.TheVariants.{Start, Took, Empty, Pushed, Full, Nothing as GotNothing}
+use Rattle.sw_frame.specs.declared.framing.Framing.{Framing}
 use Rattle.sw_link.specs.declared.link.Link.{Link}
 use Rattle.sw_link.specs.declared.link.LinkRead.{LinkRead}
 use Rattle.sw_link.specs.Script.{script_read}
@@ -31,8 +32,8 @@ run-append [] y s = refl
 run-append (x ∷ xs) y s = run-append xs y (next s x)
 
 -- nothing was taken and nothing pushed
-pub start_law : (mark : List ℕ) → Law (start mark)
-start_law mark = (
+pub start_law : (framing : Framing) → Law (start framing)
+start_law framing = (
   record { reactor_took = []; reactor_pushed = []; worker_took = []; worker_pushed = [] },
   record {
     reactor = λ one. (refl, refl);
@@ -47,89 +48,89 @@ start_law mark = (
   },
 )
 
--- a reactor's turn keeps its mark
-mark_left : (r : TheReactor) (c : Conn) (choice : Choice) (reads : Bool) → (served_choice r c choice reads).reactor.mark ≡ r.mark
-mark_left r c (PushChoice e) reads = refl
-mark_left r c Moved reads = refl
-mark_left r c Still reads = refl
-mark_left r c EndChoice reads = refl
+-- a reactor's turn keeps its framing
+framing_left : (r : TheReactor) (c : Conn) (choice : Choice) (reads : Bool) → (served_choice r c choice reads).reactor.framing ≡ r.framing
+framing_left r c (PushChoice e) reads = refl
+framing_left r c Moved reads = refl
+framing_left r c Still reads = refl
+framing_left r c EndChoice reads = refl
 
-mark_served : (r : TheReactor) (read : LinkRead) (o : Option Conn) → (served_conn r read o).reactor.mark ≡ r.mark
-mark_served r read None = refl
-mark_served r read (Some c) = let d : Chosen = serve c read in mark_left r d.conn d.choice d.reads
+framing_served : (r : TheReactor) (read : LinkRead) (o : Option Conn) → (served_conn r read o).reactor.framing ≡ r.framing
+framing_served r read None = refl
+framing_served r read (Some c) = let d : Chosen = serve c read in framing_left r d.conn d.choice d.reads
 
-mark_chosen : (r : TheReactor) (read : LinkRead) (b : Bool) → r.took ≡ b → (chosen r read).reactor.mark ≡ r.mark
-mark_chosen r read true is = rw is (mark_served (record r { took = false }) read r.conn)
-mark_chosen r read false is = rw is refl
+framing_chosen : (r : TheReactor) (read : LinkRead) (b : Bool) → r.took ≡ b → (chosen r read).reactor.framing ≡ r.framing
+framing_chosen r read true is = rw is (framing_served (record r { took = false }) read r.conn)
+framing_chosen r read false is = rw is refl
 
-mark_msg : (r : TheReactor) (m : Msg Link ℕ) → (settled_msg r m).mark ≡ r.mark
-mark_msg r (Fresh l ip s) = refl
-mark_msg r (Send s b) = refl
-mark_msg r (Bye s) = refl
-mark_msg r (EventMsg e) = refl
+framing_msg : (r : TheReactor) (m : Msg Link ℕ) → (settled_msg r m).framing ≡ r.framing
+framing_msg r (Fresh l ip s) = refl
+framing_msg r (Send s b) = refl
+framing_msg r (Bye s) = refl
+framing_msg r (EventMsg e) = refl
 
-mark_full : (r : TheReactor) (m : Msg Link ℕ) → (full_msg r m).mark ≡ r.mark
-mark_full r (Fresh l ip s) = refl
-mark_full r (Send s b) = refl
-mark_full r (Bye s) = refl
-mark_full r (EventMsg e) = refl
+framing_full : (r : TheReactor) (m : Msg Link ℕ) → (full_msg r m).framing ≡ r.framing
+framing_full r (Fresh l ip s) = refl
+framing_full r (Send s b) = refl
+framing_full r (Bye s) = refl
+framing_full r (EventMsg e) = refl
 
-pub mark_settled : (r : TheReactor) (got : Got (Msg Link ℕ)) → (settled r got).mark ≡ r.mark
-mark_settled r Start = refl
-mark_settled r (Took m) = mark_msg (record r { empty = false }) m
-mark_settled r Empty = refl
-mark_settled r Pushed = refl
-mark_settled r (Full m) = mark_full r m
-mark_settled r GotNothing = refl
+pub framing_settled : (r : TheReactor) (got : Got (Msg Link ℕ)) → (settled r got).framing ≡ r.framing
+framing_settled r Start = refl
+framing_settled r (Took m) = framing_msg (record r { empty = false }) m
+framing_settled r Empty = refl
+framing_settled r Pushed = refl
+framing_settled r (Full m) = framing_full r m
+framing_settled r GotNothing = refl
 
-mark_turn : (s : State) (got : Got (Msg Link ℕ)) → (reactor_turned s got).reactor.mark ≡ s.reactor.mark
-mark_turn s got = mark_chosen (settled s.reactor got) (script_read 8192 s.script) (settled s.reactor got).took refl ∙ mark_settled s.reactor got
+framing_turn : (s : State) (got : Got (Msg Link ℕ)) → (reactor_turned s got).reactor.framing ≡ s.reactor.framing
+framing_turn s got = framing_chosen (settled s.reactor got) (script_read 8192 s.script) (settled s.reactor got).took refl ∙ framing_settled s.reactor got
 
-mark_if : (b : Bool) (s t : State) → s.reactor.mark ≡ t.reactor.mark → (if b then s else t).reactor.mark ≡ t.reactor.mark
-mark_if true s t e = e
-mark_if false s t e = refl
+framing_if : (b : Bool) (s t : State) → s.reactor.framing ≡ t.reactor.framing → (if b then s else t).reactor.framing ≡ t.reactor.framing
+framing_if true s t e = e
+framing_if false s t e = refl
 
-mark_push : (s : State) (t : Target) (m : Msg Link ℕ) → (push_left s t m).reactor.mark ≡ s.reactor.mark
-mark_push s (ToReactor k) m = mark_if (k == 0) _ s refl
-mark_push s (ToWorker k) m = mark_if (k == 0) _ s refl
+framing_push : (s : State) (t : Target) (m : Msg Link ℕ) → (push_left s t m).reactor.framing ≡ s.reactor.framing
+framing_push s (ToReactor k) m = framing_if (k == 0) _ s refl
+framing_push s (ToWorker k) m = framing_if (k == 0) _ s refl
 
-mark_door : (s : State) (p : Pending) → (door_goes s p).reactor.mark ≡ s.reactor.mark
-mark_door s (Gave got) = refl
-mark_door s (Asked Take) = refl
-mark_door s (Asked (Push t m)) = mark_push s t m
-mark_door s (Asked AskNothing) = refl
-mark_door s (Asked Rest) = refl
+framing_door : (s : State) (p : Pending) → (door_goes s p).reactor.framing ≡ s.reactor.framing
+framing_door s (Gave got) = refl
+framing_door s (Asked Take) = refl
+framing_door s (Asked (Push t m)) = framing_push s t m
+framing_door s (Asked AskNothing) = refl
+framing_door s (Asked Rest) = refl
 
-mark_reactor : (s : State) (p : Pending) → (reactor_goes s p).reactor.mark ≡ s.reactor.mark
-mark_reactor s (Gave got) = mark_turn s got
-mark_reactor s (Asked Take) = refl
-mark_reactor s (Asked (Push t m)) = mark_push s t m
-mark_reactor s (Asked AskNothing) = mark_turn s GotNothing
-mark_reactor s (Asked Rest) = mark_turn s GotNothing
+framing_reactor : (s : State) (p : Pending) → (reactor_goes s p).reactor.framing ≡ s.reactor.framing
+framing_reactor s (Gave got) = framing_turn s got
+framing_reactor s (Asked Take) = refl
+framing_reactor s (Asked (Push t m)) = framing_push s t m
+framing_reactor s (Asked AskNothing) = framing_turn s GotNothing
+framing_reactor s (Asked Rest) = framing_turn s GotNothing
 
-mark_worker : (s : State) (p : Pending) → (worker_goes s p).reactor.mark ≡ s.reactor.mark
-mark_worker s (Gave got) = refl
-mark_worker s (Asked Take) = refl
-mark_worker s (Asked (Push t m)) = mark_push s t m
-mark_worker s (Asked AskNothing) = refl
-mark_worker s (Asked Rest) = refl
+framing_worker : (s : State) (p : Pending) → (worker_goes s p).reactor.framing ≡ s.reactor.framing
+framing_worker s (Gave got) = refl
+framing_worker s (Asked Take) = refl
+framing_worker s (Asked (Push t m)) = framing_push s t m
+framing_worker s (Asked AskNothing) = refl
+framing_worker s (Asked Rest) = refl
 
-mark_turned : (s : State) (a : ActorId) → (turned s a).reactor.mark ≡ s.reactor.mark
-mark_turned s Door = mark_door s s.door_next
-mark_turned s (Reactor k) = mark_if (k == 0) _ s (mark_reactor s s.reactor_next)
-mark_turned s (Worker k) = mark_if (k == 0) _ s (mark_worker s s.worker_next)
+framing_turned : (s : State) (a : ActorId) → (turned s a).reactor.framing ≡ s.reactor.framing
+framing_turned s Door = framing_door s s.door_next
+framing_turned s (Reactor k) = framing_if (k == 0) _ s (framing_reactor s s.reactor_next)
+framing_turned s (Worker k) = framing_if (k == 0) _ s (framing_worker s s.worker_next)
 
-mark_arrive : (s : State) (ip : ℕ) (o : Option ℕ) → (arrive_by s ip o).reactor.mark ≡ s.reactor.mark
-mark_arrive s ip None = refl
-mark_arrive s ip (Some old) = refl
+framing_arrive : (s : State) (ip : ℕ) (o : Option ℕ) → (arrive_by s ip o).reactor.framing ≡ s.reactor.framing
+framing_arrive s ip None = refl
+framing_arrive s ip (Some old) = refl
 
-pub mark_next : (s : State) (step : Step) → (next s step).reactor.mark ≡ s.reactor.mark
-mark_next s (Arrive ip) = mark_arrive s ip s.arrived
-mark_next s (Piece link piece) = mark_if (link == 0) _ s (mark_if (has_arrived s.arrived) _ s (mark_if s.script.ended s _ refl))
-mark_next s (End link) = mark_if (link == 0) _ s (mark_if (has_arrived s.arrived) _ s refl)
-mark_next s (Turn a) = mark_turned s a
+pub framing_next : (s : State) (step : Step) → (next s step).reactor.framing ≡ s.reactor.framing
+framing_next s (Arrive ip) = framing_arrive s ip s.arrived
+framing_next s (Piece link piece) = framing_if (link == 0) _ s (framing_if (has_arrived s.arrived) _ s (framing_if s.script.ended s _ refl))
+framing_next s (End link) = framing_if (link == 0) _ s (framing_if (has_arrived s.arrived) _ s refl)
+framing_next s (Turn a) = framing_turned s a
 
--- no step changes the reactor's mark
-pub mark_run : (steps : List Step) (s : State) → (run steps s).reactor.mark ≡ s.reactor.mark
-mark_run [] s = refl
-mark_run (step ∷ steps) s = mark_run steps (next s step) ∙ mark_next s step
+-- no step changes the reactor's framing
+pub framing_run : (steps : List Step) (s : State) → (run steps s).reactor.framing ≡ s.reactor.framing
+framing_run [] s = refl
+framing_run (step ∷ steps) s = framing_run steps (next s step) ∙ framing_next s step

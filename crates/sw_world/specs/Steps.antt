@@ -7,6 +7,7 @@ use Rattle.sw_data.specs.declared.messages.Target.{Target}
 use Rattle.sw_data.specs.declared.messages.Target.TheVariants.{Reactor as ToReactor, Worker as ToWorker}
 use Rattle.sw_data.specs.declared.messages.Got.{Got}
 use Rattle.sw_data.specs.declared.messages.Got.TheVariants.{Start, Full, Nothing as GotNothing}
+use Rattle.sw_frame.specs.declared.framing.Framing.{Framing}
 use Rattle.sw_link.specs.declared.link.Link.{Link}
 use Rattle.sw_link.specs.Chunks.{with_piece}
 use Rattle.sw_link.specs.Script.{no_script, script_read}
@@ -24,15 +25,15 @@ use Rattle.sw_world.specs.declared.state.Pending.{Pending}
 use Rattle.sw_world.specs.declared.state.Pending.TheVariants.{Asked, Got as Gave}
 
 -- all actors before their first turns, all pipes empty, and no link
-abbrev pub start : List ℕ → State
-start mark =
+abbrev pub start : Framing → State
+start framing =
     record {
       arrived = None;
       net = record { waiting = None };
       script = no_script;
       door = record { accepts = false };
       door_next = Gave Start;
-      reactor = record { mark = mark; conn = None; over = None; took = false; empty = false };
+      reactor = record { framing = framing; conn = None; over = None; took = false; empty = false };
       reactor_next = Gave Start;
       worker = record { log = []; stage = Idle };
       worker_next = Gave Start;

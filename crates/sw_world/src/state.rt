@@ -3,7 +3,7 @@ ghost use Rattle.std.specs.Prelude.{◌≡◌};
 use crate::pipe::Pipe;
 use std::alloc::Global;
 use std::mem::replace;
-use sw_conn::Mark;
+use sw_conn::FitFraming;
 use sw_data::{Ask, Got, Octets, OutOfMemory, Target};
 use sw_door::Door;
 use sw_link::{Asks, Gets, Message, Net, Script};
@@ -41,8 +41,8 @@ impl State {
     ghost use Rattle.sw_world.specs.Stays.{StaysState, StaysGot};
 
     /// All actors before their first turns, all pipes empty, and no link.
-    pub fn first(alloc: Global, mark: Mark) -> Result<State, OutOfMemory>
-        ensures { IfOk result (λ s. s ≡ start mark) }
+    pub fn first(alloc: Global, framing: FitFraming) -> Result<State, OutOfMemory>
+        ensures { IfOk result (λ s. s ≡ start framing) }
     {
         Ok(State {
             arrived: None,
@@ -50,7 +50,7 @@ impl State {
             script: Script::new(alloc),
             door: Door::new(),
             door_next: Pending::Got(Got::Start),
-            reactor: Reactor::new(mark),
+            reactor: Reactor::new(framing),
             reactor_next: Pending::Got(Got::Start),
             worker: Worker::new(alloc),
             worker_next: Pending::Got(Got::Start),

@@ -3,9 +3,10 @@ ghost use Rattle.std.specs.Prelude.{◌≡◌};
 use crate::state::State;
 use std::alloc::Global;
 use std::marker::Model;
-use sw_conn::Mark;
-use sw_data::{Octets, OutOfMemory};
+use sw_conn::FitFraming;
+use sw_data::OutOfMemory;
 use sw_record::{Record, Step};
+use sw_settings::Settings;
 
 /// The core, which contracts see as the state of all its actors and pipes.
 #[derive(Drop)]
@@ -30,24 +31,24 @@ impl Model for World {
 }
 
 impl World {
-    ghost use Rattle.std.specs.Prelude.{◌≡◌, ◌<◌, ◌≤◌, ℕ, length, slice_get, IfOk, OnOk, OnErr};
+    ghost use Rattle.std.specs.Prelude.{◌≡◌, ℕ, slice_get, IfOk, OnOk, OnErr};
     ghost use Rattle.sw_data.specs.declared.ended.Ended.{Ended};
     ghost use Rattle.sw_record.specs.declared.record.LinkRecord.{LinkRecord};
     ghost use Rattle.sw_record.specs.declared.record.LinkState.TheVariants.{Over};
     ghost use Rattle.sw_record.specs.Ends.{Drained};
     ghost use Rattle.sw_record.specs.Right.{Right};
     ghost use Rattle.sw_laws.specs.Joint.{core_terms};
+    ghost use Rattle.sw_settings.specs.Framings.{framing_of};
     ghost use Rattle.sw_world.specs.Steps.{start, next};
     ghost use Rattle.sw_world.specs.Account.{record_of, at_end_of};
     ghost use Rattle.sw_world.specs.Stays.{StaysState};
 
-    /// The core before its first step. Packets end at the mark, which has 1 to 8 bytes.
-    pub fn make(alloc: Global, mark: Octets) -> Result<World, OutOfMemory>
-        requires some { 0 < length mark }
-        requires few { length mark ≤ 8 }
-        ensures { IfOk result (λ w. w ≡ start mark) }
+    /// The core before its first step, by these settings: each link is cut into packets by their framing.
+    pub fn make(alloc: Global, settings: &Settings) -> Result<World, OutOfMemory>
+        ensures { IfOk result (λ w. w ≡ start (framing_of settings.now)) }
     {
-        let state = State::first(alloc, Mark::of(mark))?;
+        let framing = FitFraming::of(settings.framing().copy()?);
+        let state = State::first(alloc, framing)?;
         Ok(World {
             state,
             alloc,
@@ -75,8 +76,8 @@ impl World {
     /// is on its way.
     pub fn account(&self) -> Result<Record, OutOfMemory>
         ensures exactly { IfOk result (λ r. r ≡ record_of self.now) }
-        ensures right { IfOk result (λ r. Right (core_terms self.now.reactor.mark) r (at_end_of self.now)) }
-        ensures drained { IfOk result (λ r. (at : ℕ) (l : LinkRecord) (e : Ended) → slice_get r.links at ≡ Some l → l.state ≡ Over e → Drained (core_terms self.now.reactor.mark) r) }
+        ensures right { IfOk result (λ r. Right (core_terms self.now.reactor.framing) r (at_end_of self.now)) }
+        ensures drained { IfOk result (λ r. (at : ℕ) (l : LinkRecord) (e : Ended) → slice_get r.links at ≡ Some l → l.state ≡ Over e → Drained (core_terms self.now.reactor.framing) r) }
     {
         if self.lost {
             return Err(OutOfMemory);

@@ -1,7 +1,5 @@
-use Rattle.std.proofs.Common.{◌≡◌, ℕ, List, [], ◌∷◌, ◌++◌, length, refl, ap, arith, Option, Some, None, slice_get, slice_set, zero, suc, ◌∙◌, sym, subst}
+use Rattle.std.proofs.Common.{◌≡◌, ℕ, List, [], ◌∷◌, ◌++◌, length, refl, ap, arith, Option, Some, None, slice_get, zero, suc, ◌∙◌, subst}
 use Rattle.std.specs.List.{concat}
-use Rattle.sw_data.specs.declared.events.Given.{Given}
-use Rattle.sw_data.specs.declared.events.Act.{Act}
 use Rattle.sw_record.specs.Bytes.{Own, IsPart}
 use Rattle.sw_record.specs.Sends.{Merge}
 use Rattle.sw_record.specs.Terms.{IsPrefix}

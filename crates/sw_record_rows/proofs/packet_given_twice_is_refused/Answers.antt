@@ -1,4 +1,5 @@
-use Rattle.std.proofs.Common.{◌≡◌, ℕ, List, [], ◌∷◌, ◌++◌, refl, ap, arith}
+use Rattle.std.proofs.Common.{◌≡◌, ℕ, List, [], ◌∷◌, refl, ap, arith}
+use Rattle.sw_frame.specs.Cut.{cut}
 use Rattle.sw_record.specs.Order.{InOrder}
 use Rattle.sw_record_rows.specs.Rows.{two_packets, given_twice, live, given_packet}
 use Rattle.sw_record_rows.proofs.packet_given_twice_is_refused.Goals as goal
@@ -13,6 +14,7 @@ differ : (rest : List (ℕ × List ℕ)) → (0, 97 ∷ []) ∷ (0, 97 ∷ []) �
 differ rest e = omega (arith, ap number_at e)
 
 wrong : InOrder two_packets given_twice → ⊥
+unfolding cut
 wrong h =
     let p = (h.at_target 1 (live []) (record { at = 0; there = refl; session = refl }) (given_packet 1 0 97 ∷ given_packet 1 0 97 ∷ []) refl).packets in
     differ p.0 p.1

@@ -1,9 +1,8 @@
-use Rattle.std.proofs.Common.{◌≡◌, ℕ, List, [], ◌∷◌, refl, Option, Some, None, slice_get, zero, suc}
-use Rattle.sw_data.specs.declared.events.Event.{Event}
+use Rattle.std.proofs.Common.{◌≡◌, ℕ, [], ◌∷◌, refl, Option, Some, None, slice_get, zero, suc}
 use Rattle.sw_data.specs.declared.events.Event.TheVariants.{Packet}
 use Rattle.sw_record.specs.declared.record.LinkRecord.{LinkRecord}
 use Rattle.sw_record.specs.Order.{InOrder}
-use Rattle.sw_record.specs.Terms.{HasLink, session_of}
+use Rattle.sw_record.specs.Terms.{session_of}
 use Rattle.sw_record_rows.specs.Rows.{two_packets, stranger, live, given_packet}
 use Rattle.sw_record_rows.proofs.stranger_is_refused.Goals as goal
 

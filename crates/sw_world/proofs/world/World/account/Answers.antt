@@ -12,11 +12,11 @@ use Rattle.sw_world.proofs.Reached.{right_reached, drained_reached}
 use Rattle.sw_world.proofs.world.World.account.Goals as goal
 
 -- what holds of a state and its record holds of the record that was given
-given_right : (s t : State) (r : Record) → s ≡ t → r ≡ record_of s → Right (core_terms s.reactor.mark) (record_of s) (at_end_of s) → Right (core_terms t.reactor.mark) r (at_end_of t)
-given_right s t r e f h = subst (λ (x : State). Right (core_terms x.reactor.mark) r (at_end_of x)) e (rw f h)
+given_right : (s t : State) (r : Record) → s ≡ t → r ≡ record_of s → Right (core_terms s.reactor.framing) (record_of s) (at_end_of s) → Right (core_terms t.reactor.framing) r (at_end_of t)
+given_right s t r e f h = subst (λ (x : State). Right (core_terms x.reactor.framing) r (at_end_of x)) e (rw f h)
 
 abbrev IsDrained : State → Record → Type 0
-IsDrained s r = (at : ℕ) (l : LinkRecord) (e : Ended) → slice_get r.links at ≡ Some l → l.state ≡ Over e → Drained (core_terms s.reactor.mark) r
+IsDrained s r = (at : ℕ) (l : LinkRecord) (e : Ended) → slice_get r.links at ≡ Some l → l.state ≡ Over e → Drained (core_terms s.reactor.framing) r
 
 given_drained : (s t : State) (r : Record) → s ≡ t → r ≡ record_of s → IsDrained s (record_of s) → IsDrained t r
 given_drained s t r e f h = subst (λ (x : State). IsDrained x r) e (rw f h)

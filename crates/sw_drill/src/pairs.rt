@@ -1,0 +1,80 @@
+// The pairs that lines of settings give.
+
+ghost use Rattle.std.specs.Prelude.{◌≡◌, [], ◌∷◌, ◌++◌, Some, None, IfOk, if◌then◌else◌};
+ghost use Rattle.sw_drill.specs.Pairs.{has_name, with_pair, AreNames};
+
+use std::alloc::Global;
+use std::collections::BTreeSet;
+use std::marker::Model;
+use sw_data::{Octets, OutOfMemory};
+use sw_settings::{Pair, SetValue};
+
+/// Pairs whose names differ, in the order in which they were added.
+#[derive(Drop)]
+pub struct Pairs {
+    items: Vec<Pair>,
+    // So that many lines don't take the time of all pairs of lines.
+    names: BTreeSet<Vec<u8>>,
+}
+
+impl Model for Pairs {
+    ghost use Rattle.std.specs.Prelude.{List};
+    ghost use Rattle.sw_settings.specs.declared.pair.Pair.{Pair};
+    ghost use Rattle.sw_drill.specs.Pairs.{AreNames};
+
+    ghost Value = { List Pair };
+
+    ghost view = { λ p. p.items.items };
+
+    ghost invariant = { λ p. AreNames p.names.keys p.items.items };
+}
+
+impl Pairs {
+    /// No pair. It takes no memory.
+    pub fn new(alloc: Global) -> Pairs
+        ensures { result ≡ [] }
+    {
+        Pairs {
+            items: Vec::new(alloc),
+            names: BTreeSet::new(alloc),
+        }
+    }
+
+    /// The pairs, given away.
+    pub fn into_vec(self) -> Vec<Pair>
+        ensures { result.items ≡ self }
+    {
+        self.items
+    }
+
+    /// One pair more at the end, and whether its name is new; where it isn't, the pairs are as before.
+    pub fn add(&mut self, alloc: Global, name: &[u8], value: SetValue) -> Result<bool, OutOfMemory>
+        ensures { IfOk result (λ ok. with_pair self.old name.now value ≡ (if ok then Some self.new else None)) }
+    {
+        add(&mut self.items, &mut self.names, alloc, name, value)
+    }
+}
+
+fn add(
+    items: &mut Vec<Pair>,
+    names: &mut BTreeSet<Vec<u8>>,
+    alloc: Global,
+    name: &[u8],
+    value: SetValue,
+) -> Result<bool, OutOfMemory>
+    requires { AreNames names.old.keys items.old.items }
+    ensures names { AreNames names.new.keys items.new.items }
+    ensures ok { IfOk result (λ ok. with_pair items.old.items name.now value ≡ (if ok then Some items.new.items else None)) }
+{
+    let text = Vec::from_slice(alloc, name)?;
+    let bytes = Vec::from_slice(alloc, name)?;
+    items.reserve(1)?;
+    if !names.insert(text)? {
+        return Ok(false);
+    }
+    items.push_reserved(Pair {
+        name: Octets::of(bytes),
+        value,
+    });
+    Ok(true)
+}

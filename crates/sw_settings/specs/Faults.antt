@@ -1,0 +1,73 @@
+-- The first refusal that applies.
+use Rattle.std.specs.Prelude.{◌≡◌, ℕ, List, codes, Bool, ◌&&◌, is_none, Option, Some, None, ◌⊎◌, if◌then◌else◌}
+use Rattle.std.specs.Option.{option_map, option_or}
+use Rattle.sw_settings.specs.declared.pair.Pair.{Pair}
+use Rattle.sw_settings.specs.declared.checks.Check.TheVariants as checks
+use Rattle.sw_settings.specs.declared.keys.Rule.{Rule}
+use Rattle.sw_settings.specs.declared.keys.Rule.TheVariants.{Truth, Number, Text, Letter}
+use Rattle.sw_settings.specs.declared.faults.SettingsFault.{SettingsFault}
+use Rattle.sw_settings.specs.declared.faults.SettingsFault.TheVariants.{Unknown, BadType, Range, Missing, Conflict, OutOfMemory}
+use Rattle.sw_settings.specs.Keys.{rule_of}
+use Rattle.sw_settings.specs.Checks.{first_key}
+use Rattle.sw_settings.specs.Values.{truth_of, text_of}
+
+-- ---- each reason, at the first key in byte order that has it
+
+-- a name is no key
+unfoldable pub unknown_fault : List Pair → Option SettingsFault
+unknown_fault ps = option_map Unknown (first_key checks.Known ps)
+
+-- a value isn't of the key's kind
+unfoldable pub type_fault : List Pair → Option SettingsFault
+type_fault ps = option_map BadType (first_key checks.Kind ps)
+
+abbrev pub out_of_rule : List ℕ → Rule → SettingsFault
+out_of_rule name Truth = Range name 0 0
+out_of_rule name (Number least most default) = Range name least most
+out_of_rule name (Text least most) = Range name least most
+out_of_rule name Letter = Range name 0 0
+
+abbrev pub out_of : List ℕ → Option Rule → SettingsFault
+out_of name None = Range name 0 0
+out_of name (Some rule) = out_of_rule name rule
+
+-- the refusal of a key with its range; keys without one are never out of it
+abbrev pub out_of_range : List ℕ → SettingsFault
+out_of_range name = out_of name (rule_of name)
+
+-- a number or the length of a text isn't in the key's range
+unfoldable pub range_fault : List Pair → Option SettingsFault
+range_fault ps = option_map out_of_range (first_key checks.Range ps)
+
+-- packets end at a mark and there is none, or have a length field and there is no letter for it
+unfoldable pub missing_fault : List Pair → Option SettingsFault
+missing_fault ps =
+    if truth_of (codes "open_eof_split") ps && is_none (text_of (codes "package_eof") ps) then Some (Missing (codes "package_eof"))
+    else if truth_of (codes "open_length_check") ps && is_none (text_of (codes "package_length_type") ps) then Some (Missing (codes "package_length_type"))
+    else None
+
+-- packets can't be cut in both ways
+unfoldable pub conflict_fault : List Pair → Option SettingsFault
+conflict_fault ps =
+    if truth_of (codes "open_eof_split") ps && truth_of (codes "open_length_check") ps then Some (Conflict (codes "open_eof_split") (codes "open_length_check"))
+    else None
+
+-- ---- one reason after the other
+
+abbrev pub from_missing : List Pair → Option SettingsFault
+from_missing ps = option_or (missing_fault ps) (conflict_fault ps)
+
+abbrev pub from_range : List Pair → Option SettingsFault
+from_range ps = option_or (range_fault ps) (from_missing ps)
+
+abbrev pub from_type : List Pair → Option SettingsFault
+from_type ps = option_or (type_fault ps) (from_range ps)
+
+-- the first refusal that applies
+abbrev pub fault_of : List Pair → Option SettingsFault
+fault_of ps = option_or (unknown_fault ps) (from_type ps)
+
+-- the answer is that refusal, or there was no memory
+abbrev pub IsRefusal : Option SettingsFault → SettingsFault → Type 0
+IsRefusal None f = f ≡ OutOfMemory
+IsRefusal (Some g) f = (f ≡ g) ⊎ (f ≡ OutOfMemory)

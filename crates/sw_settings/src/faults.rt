@@ -1,0 +1,170 @@
+// Why pairs are refused.
+
+ghost use Rattle.std.specs.Prelude.{◌≡◌, IfOk, codes, None, Some};
+ghost use Rattle.std.specs.Option.{option_copied};
+ghost use Rattle.sw_settings.specs.Checks.{first_key};
+ghost use Rattle.sw_settings.specs.Faults.{unknown_fault, type_fault, range_fault, out_of_range, out_of_rule, missing_fault, conflict_fault, fault_of, from_type, from_range, from_missing};
+
+use crate::checks::{Check, first_key};
+use crate::keys::{Rule, rule_of};
+use crate::pair::Pair;
+use crate::values::{text, truth};
+use std::alloc::{AllocError, Global};
+use sw_data::{Key, OutOfMemory};
+
+/// Why pairs are refused, in the order in which the reasons are looked for. Among several keys with one reason it is the
+/// first key in byte order.
+#[derive(Drop, Debug)]
+pub enum SettingsFault {
+    /// There is no such key.
+    Unknown(Key),
+    /// The value isn't of the key's kind.
+    BadType(Key),
+    /// The number, or the length of the text in bytes, isn't from the first number to the second.
+    Range(Key, u64, u64),
+    /// This key has to be set where another one is true.
+    Missing(Key),
+    /// These two can't both be true.
+    Conflict(Key, Key),
+    /// Memory ran out.
+    OutOfMemory,
+}
+
+impl From<OutOfMemory> for SettingsFault {
+    ghost use Rattle.sw_settings.specs.declared.faults.SettingsFault.TheVariants.{OutOfMemory};
+
+    ghost from_gives = { λ _ e. e ≡ OutOfMemory };
+
+    fn from(_: OutOfMemory) -> SettingsFault {
+        SettingsFault::OutOfMemory
+    }
+}
+
+fn key(alloc: Global, name: &str) -> Result<Key, OutOfMemory>
+    ensures { IfOk result (λ k. k ≡ name.now) }
+{
+    let bytes = Vec::from_slice(alloc, name.as_bytes())?;
+    Ok(Key::of(bytes))
+}
+
+/// The first key that the check refuses.
+fn refused(check: Check, pairs: &[Pair]) -> Result<Option<Key>, OutOfMemory>
+    ensures { IfOk result (λ k. k ≡ first_key check pairs.now) }
+{
+    match first_key(check, pairs) {
+        None => Ok(None),
+        Some(name) => Ok(Some(name.copy()?)),
+    }
+}
+
+#[tactic(auto, unfolding(crate::specs::Faults::unknown_fault))]
+fn unknown_fault(pairs: &[Pair]) -> Result<Option<SettingsFault>, OutOfMemory>
+    ensures { IfOk result (λ f. f ≡ unknown_fault pairs.now) }
+{
+    match refused(Check::Known, pairs)? {
+        None => Ok(None),
+        Some(name) => Ok(Some(SettingsFault::Unknown(name))),
+    }
+}
+
+#[tactic(auto, unfolding(crate::specs::Faults::type_fault))]
+fn type_fault(pairs: &[Pair]) -> Result<Option<SettingsFault>, OutOfMemory>
+    ensures { IfOk result (λ f. f ≡ type_fault pairs.now) }
+{
+    match refused(Check::Kind, pairs)? {
+        None => Ok(None),
+        Some(name) => Ok(Some(SettingsFault::BadType(name))),
+    }
+}
+
+fn out_of_rule(name: Key, rule: Rule) -> SettingsFault
+    ensures { result ≡ out_of_rule name rule }
+{
+    match rule {
+        Rule::Truth => SettingsFault::Range(name, 0, 0),
+        Rule::Number(least, most, _) => SettingsFault::Range(name, least, most),
+        Rule::Text(least, most) => SettingsFault::Range(name, least, most),
+        Rule::Letter => SettingsFault::Range(name, 0, 0),
+    }
+}
+
+fn out_of_range(name: Key) -> SettingsFault
+    ensures { result ≡ out_of_range name }
+{
+    match rule_of(name.bytes()) {
+        None => SettingsFault::Range(name, 0, 0),
+        Some(rule) => out_of_rule(name, rule),
+    }
+}
+
+#[tactic(auto, unfolding(crate::specs::Faults::range_fault))]
+fn range_fault(pairs: &[Pair]) -> Result<Option<SettingsFault>, OutOfMemory>
+    ensures { IfOk result (λ f. f ≡ range_fault pairs.now) }
+{
+    match refused(Check::Range, pairs)? {
+        None => Ok(None),
+        Some(name) => Ok(Some(out_of_range(name))),
+    }
+}
+
+#[tactic(auto, unfolding(crate::specs::Faults::missing_fault))]
+fn missing_fault(alloc: Global, pairs: &[Pair]) -> Result<Option<SettingsFault>, OutOfMemory>
+    ensures { IfOk result (λ f. f ≡ missing_fault pairs.now) }
+{
+    if truth(pairs, "open_eof_split") && text(pairs, "package_eof").is_none() {
+        return Ok(Some(SettingsFault::Missing(key(alloc, "package_eof")?)));
+    }
+    if truth(pairs, "open_length_check") && text(pairs, "package_length_type").is_none() {
+        return Ok(Some(SettingsFault::Missing(key(alloc, "package_length_type")?)));
+    }
+    Ok(None)
+}
+
+#[tactic(auto, unfolding(crate::specs::Faults::conflict_fault))]
+fn conflict_fault(alloc: Global, pairs: &[Pair]) -> Result<Option<SettingsFault>, OutOfMemory>
+    ensures { IfOk result (λ f. f ≡ conflict_fault pairs.now) }
+{
+    if truth(pairs, "open_eof_split") && truth(pairs, "open_length_check") {
+        let split = key(alloc, "open_eof_split")?;
+        let check = key(alloc, "open_length_check")?;
+        return Ok(Some(SettingsFault::Conflict(split, check)));
+    }
+    Ok(None)
+}
+
+fn from_missing(alloc: Global, pairs: &[Pair]) -> Result<Option<SettingsFault>, OutOfMemory>
+    ensures { IfOk result (λ f. f ≡ from_missing pairs.now) }
+{
+    match missing_fault(alloc, pairs)? {
+        Some(fault) => Ok(Some(fault)),
+        None => conflict_fault(alloc, pairs),
+    }
+}
+
+fn from_range(alloc: Global, pairs: &[Pair]) -> Result<Option<SettingsFault>, OutOfMemory>
+    ensures { IfOk result (λ f. f ≡ from_range pairs.now) }
+{
+    match range_fault(pairs)? {
+        Some(fault) => Ok(Some(fault)),
+        None => from_missing(alloc, pairs),
+    }
+}
+
+fn from_type(alloc: Global, pairs: &[Pair]) -> Result<Option<SettingsFault>, OutOfMemory>
+    ensures { IfOk result (λ f. f ≡ from_type pairs.now) }
+{
+    match type_fault(pairs)? {
+        Some(fault) => Ok(Some(fault)),
+        None => from_range(alloc, pairs),
+    }
+}
+
+/// The first refusal that applies.
+pub fn fault(alloc: Global, pairs: &[Pair]) -> Result<Option<SettingsFault>, OutOfMemory>
+    ensures { IfOk result (λ f. f ≡ fault_of pairs.now) }
+{
+    match unknown_fault(pairs)? {
+        Some(fault) => Ok(Some(fault)),
+        None => from_type(alloc, pairs),
+    }
+}

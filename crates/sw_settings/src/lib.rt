@@ -1,0 +1,20 @@
+// What a server is set to: the table of keys, the refusals, and a reader for each key. Stands between the texts in which
+// settings come and the actors that are made by them.
+#![tactic(auto)]
+
+mod checks;
+mod faults;
+mod framings;
+mod keys;
+mod pair;
+mod settings;
+mod values;
+
+pub use checks::{Check, first_key_is_exact};
+pub use faults::SettingsFault;
+pub use pair::{Pair, SetValue};
+pub use settings::{Settings, from_pairs};
+pub use values::given;
+
+#[cfg(test)]
+mod tests;

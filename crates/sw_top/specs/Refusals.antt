@@ -1,0 +1,55 @@
+-- Why an input is refused, and what is written then.
+use Rattle.std.specs.Prelude.{◌≡◌, ◌++◌, ℕ, List, [], codes, Bool, true, false, Option, Some, None, Result, Ok, Err}
+use Rattle.std.specs.Fmt.{decimal}
+use Rattle.sw_text.specs.Hex.{hex}
+use Rattle.sw_settings.specs.declared.pair.Pair.{Pair}
+use Rattle.sw_settings.specs.declared.faults.SettingsFault.{SettingsFault}
+use Rattle.sw_settings.specs.declared.faults.SettingsFault.TheVariants.{Unknown, BadType, Range, Missing, Conflict, OutOfMemory}
+use Rattle.sw_settings.specs.Faults.{fault_of}
+use Rattle.sw_top.specs.declared.refusal.Refusal.{Refusal}
+use Rattle.sw_top.specs.declared.refusal.Refusal.TheVariants.{Line, Settings}
+use Rattle.sw_top.specs.declared.status.Status.{Status}
+use Rattle.sw_top.specs.declared.status.Status.TheVariants as statuses
+
+-- a word and a key behind it
+abbrev pub key_text : List ℕ → List ℕ → List ℕ
+key_text word key = word ++ key
+
+-- the reason, with the key that it is about: a key that isn't known as hexadecimal digits
+abbrev pub reason_text : SettingsFault → List ℕ
+reason_text (Unknown key) = key_text (codes "unknown x") (hex key)
+reason_text (BadType key) = key_text (codes "type ") key
+reason_text (Range key least most) = key_text (codes "range ") key ++ codes " " ++ decimal least ++ codes " " ++ decimal most
+reason_text (Missing key) = key_text (codes "missing ") key
+reason_text (Conflict key other) = key_text (codes "conflict ") key ++ key_text (codes " ") other
+reason_text OutOfMemory = []
+
+-- the line that is written for refused settings
+abbrev pub settings_text : SettingsFault → List ℕ
+settings_text fault = codes "fault settings " ++ reason_text fault ++ codes "\n"
+
+-- the line that is written for a line out of the grammar
+abbrev pub line_text : ℕ → List ℕ
+line_text n = codes "fault line " ++ decimal n ++ codes "\n"
+
+abbrev pub refusal_text : Refusal → List ℕ
+refusal_text (Line n) = line_text n
+refusal_text (Settings fault) = settings_text fault
+
+-- the status of a refused input
+abbrev pub refusal_status : Refusal → Status
+refusal_status (Line n) = statuses.BadLine n
+refusal_status (Settings fault) = statuses.Settings fault
+
+abbrev pub is_memory : SettingsFault → Bool
+is_memory (Unknown key) = false
+is_memory (BadType key) = false
+is_memory (Range key least most) = false
+is_memory (Missing key) = false
+is_memory (Conflict key other) = false
+is_memory OutOfMemory = true
+
+-- the pairs are settings, or are refused for their first fault
+abbrev pub IsSettled : List Pair → Result (List Pair) SettingsFault → Type 0
+IsSettled ps (Ok s) = (fault_of ps ≡ None) × (s ≡ ps)
+IsSettled ps (Err fault) = fault_of ps ≡ Some fault
