@@ -95,7 +95,7 @@ same_add_at : (t : Shape) (s z : State) (k name : List ℕ) (v : ℤ) → Near t
 same_add_at t s z k name v near pool =
     subst (λ (r : List Value). Same t (add t s k name v) (add_step (fits (size_of t.columns name) v) (may_write t z k) z k (with_value t.columns r name (values.Int v)) v) (bucket t.size k)) (same_row t s z k near)
     (same_add (fits (size_of t.columns name) v) (may_write t s k) (may_write t z k) t s z k (with_value t.columns (row_of t s k) name (values.Int v)) v
-        (λ f. same_write t s z k near (λ w. pool (ap (λ x. x && write_needs_pool t s k) f ∙ w))) near)
+    (λ f. same_write t s z k near (λ w. pool (ap (λ x. x && write_needs_pool t s k) f ∙ w))) near)
 
 same_set_at : (t : Shape) (s z : State) (k : List ℕ) (pairs : List (List ℕ × Value)) → Near t s z k → (write_needs_pool t s k ≡ true → PoolAlike t s z) → Same t (TStep t s (Set k pairs)) (TStep t z (Set k pairs)) (bucket t.size k)
 same_set_at t s z k pairs near pool =

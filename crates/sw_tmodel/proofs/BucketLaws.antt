@@ -98,7 +98,7 @@ count_cut t s k =
     let all = len-remove nat_list_cmp_total s k in
     let own = cut_in t s k in
     let alike = less_alike (map.get s k) (map.len s) (map.len (part t.size s (bucket t.size k))) (λ v is. not_empty s k v (map.len s) refl is)
-        (λ v is. not_empty (part t.size s (bucket t.size k)) k v (map.len (part t.size s (bucket t.size k))) refl (get_own t.size s k ∙ is)) in
+    (λ v is. not_empty (part t.size s (bucket t.size k)) k v (map.len (part t.size s (bucket t.size k))) refl (get_own t.size s k ∙ is)) in
     omega arith
 
 pub count_follows : CountFollows
@@ -111,7 +111,7 @@ count_follows t s call key is = left_at t s call key (λ (z : State). map.len z 
 pub pool_follows : PoolFollows
 pool_follows t s call key some is =
     sum_change (λ b. map.len (part t.size s b) - 1) (λ b. map.len (part t.size (TStep t s call).state b) - 1) (bucket t.size key) t.size (mod-lt (hash key) some)
-        (λ c ne. ap (λ (m : State). map.len m - 1) (sym (other_buckets t s call key c is ne)))
+    (λ c ne. ap (λ (m : State). map.len m - 1) (sym (other_buckets t s call key c is ne)))
 
 no_more : (o : Option (List Value)) (n : ℕ) → (not (is_some o) && not (nat_eq n 0)) ≡ false → cond (is_some o) n (n + 1) - 1 ≡ n - 1
 no_more (Some v) n e = refl
@@ -164,7 +164,7 @@ kept_at t s call key some is k =
     let pool2 = within t s call key is k.pool in
     let rows1 = count_follows t s call key is in
     let rows2 = sum_change (λ b. map.len (part t.size s b)) (λ b. map.len (part t.size (TStep t s call).state b)) (bucket t.size key) t.size (mod-lt (hash key) some)
-        (λ c ne. ap map.len (sym (other_buckets t s call key c is ne))) in
+    (λ c ne. ap map.len (sym (other_buckets t s call key c is ne))) in
     let rows3 : map.len s ≡ sum_below (λ b. map.len (part t.size s b)) t.size = k.rows in
     record { pool = omega arith; rows = omega arith }
 

@@ -72,17 +72,38 @@ fn a_bucket_and_its_pool(rt: HostRuntime) -> Result<(), Fail> {
     schema.column(b"n", Kind::Int, 8)?;
     let mut row = RowBuf::make(alloc, &schema)?;
     let mut plain = Plain::make(alloc, schema, 64, 2, 8)?;
-    assert_eq!(rt; ask(&mut plain, &mut row, &set(alloc, b"Aa")?), placed(0, Reply::Stored));
-    assert_eq!(rt; ask(&mut plain, &mut row, &set(alloc, b"BB")?), placed(1, Reply::Stored));
-    assert_eq!(rt; ask(&mut plain, &mut row, &set(alloc, b"C#")?), placed(2, Reply::Full));
-    assert_eq!(rt; ask(&mut plain, &mut row, &set(alloc, b"a")?), placed(3, Reply::Stored));
+    assert_eq!(rt;
+        ask(&mut plain, &mut row, &set(alloc, b"Aa")?),
+        placed(0, Reply::Stored)
+    );
+    assert_eq!(rt;
+        ask(&mut plain, &mut row, &set(alloc, b"BB")?),
+        placed(1, Reply::Stored)
+    );
+    assert_eq!(rt;
+        ask(&mut plain, &mut row, &set(alloc, b"C#")?),
+        placed(2, Reply::Full)
+    );
+    assert_eq!(rt;
+        ask(&mut plain, &mut row, &set(alloc, b"a")?),
+        placed(3, Reply::Stored)
+    );
     let del = Call::Del(key(alloc, b"Aa")?);
     assert_eq!(rt; ask(&mut plain, &mut row, &del), placed(4, Reply::Yes));
-    assert_eq!(rt; ask(&mut plain, &mut row, &set(alloc, b"C#")?), placed(5, Reply::Stored));
+    assert_eq!(rt;
+        ask(&mut plain, &mut row, &set(alloc, b"C#")?),
+        placed(5, Reply::Stored)
+    );
     let get = Call::Get(key(alloc, b"BB")?);
     assert_eq!(rt; ask(&mut plain, &mut row, &get), placed(6, Reply::Found));
-    assert_eq!(rt; ask(&mut plain, &mut row, &Call::Count), placed(7, Reply::Count(3)));
-    assert_eq!(rt; ask(&mut plain, &mut row, &Call::Count), Err(CallFault::Spent(8)));
+    assert_eq!(rt;
+        ask(&mut plain, &mut row, &Call::Count),
+        placed(7, Reply::Count(3))
+    );
+    assert_eq!(rt;
+        ask(&mut plain, &mut row, &Call::Count),
+        Err(CallFault::Spent(8))
+    );
     Ok(())
 }
 
@@ -94,8 +115,14 @@ fn numbers_and_texts(rt: HostRuntime) -> Result<(), Fail> {
     schema.column(b"s", Kind::Text, 4)?;
     let mut row = RowBuf::make(alloc, &schema)?;
     let mut plain = Plain::make(alloc, schema, 64, 20, 5)?;
-    assert_eq!(rt; ask(&mut plain, &mut row, &incr(alloc, 127)?), placed(0, Reply::Value(127)));
-    assert_eq!(rt; ask(&mut plain, &mut row, &incr(alloc, 1)?), placed(1, Reply::Range));
+    assert_eq!(rt;
+        ask(&mut plain, &mut row, &incr(alloc, 127)?),
+        placed(0, Reply::Value(127))
+    );
+    assert_eq!(rt;
+        ask(&mut plain, &mut row, &incr(alloc, 1)?),
+        placed(1, Reply::Range)
+    );
     let long = set(alloc, &[107u8; 64])?;
     assert_eq!(rt; ask(&mut plain, &mut row, &long), Err(CallFault::BadKey));
     let text = set_text(alloc, b"k", b"abcde")?;
@@ -103,6 +130,9 @@ fn numbers_and_texts(rt: HostRuntime) -> Result<(), Fail> {
     let get = Call::Get(key(alloc, b"k")?);
     assert_eq!(rt; ask(&mut plain, &mut row, &get), placed(3, Reply::Found));
     assert!(rt; holds(&row, 127, b"abcd"));
-    assert_eq!(rt; ask(&mut plain, &mut row, &decr(alloc, 255)?), placed(4, Reply::Value(-128)));
+    assert_eq!(rt;
+        ask(&mut plain, &mut row, &decr(alloc, 255)?),
+        placed(4, Reply::Value(-128))
+    );
     Ok(())
 }
