@@ -39,6 +39,8 @@ fn calls_fit_the_columns(rt: HostRuntime) -> Result<(), Fail> {
         schema.fit(&Call::Incr(key, name, 1)),
         Err(CallFault::NotInt)
     );
+    let longest = Key::of(vec![in rt.alloc(); 107u8; 63]?);
+    assert_eq!(rt; schema.fit(&Call::Get(longest)), Ok(()));
     let long = Key::of(vec![in rt.alloc(); 107u8; 64]?);
     assert_eq!(rt; schema.fit(&Call::Get(long)), Err(CallFault::BadKey));
     let mut pairs = Pairs::new(rt.alloc());
@@ -67,5 +69,29 @@ fn keys_are_hashed_and_rows_are_held(rt: HostRuntime) -> Result<(), Fail> {
     };
     assert_eq!(rt; held, 0);
     assert_eq!(rt; row.cells()?.len(), 1);
+    Ok(())
+}
+
+#[test]
+fn numbers_fit_their_width(rt: HostRuntime) -> Result<(), Fail> {
+    assert!(rt; fits(1, -128) && fits(1, 127) && !fits(1, -129) && !fits(1, 128));
+    assert!(rt; fits(2, -32_768) && fits(2, 32_767) && !fits(2, -32_769) && !fits(2, 32_768));
+    assert!(rt; fits(4, -2_147_483_648) && fits(4, 2_147_483_647));
+    assert!(rt; !fits(4, -2_147_483_649) && !fits(4, 2_147_483_648));
+    assert!(rt; fits(8, i64::MIN) && fits(8, i64::MAX));
+    Ok(())
+}
+
+#[test]
+fn there_are_at_most_32_columns(rt: HostRuntime) -> Result<(), Fail> {
+    let mut schema = Schema::new(rt.alloc());
+    for at in 0..32u8 {
+        schema.column(&[b'0' + at / 10, b'0' + at % 10], Kind::Int, 8)?;
+    }
+    assert_eq!(rt;
+        schema.column(b"n", Kind::Int, 8),
+        Err(ColumnFault::TooMany)
+    );
+    assert_eq!(rt; schema.len(), 32);
     Ok(())
 }

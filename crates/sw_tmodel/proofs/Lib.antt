@@ -8,3 +8,6 @@ pub mod RowSteps
 pub mod StoreSteps
 pub mod StoredLaws
 pub mod PlaceLaws
+pub mod BucketLaws
+pub mod AlikeLaws
+pub mod RaisedLaws

@@ -117,7 +117,7 @@ stored_pushed es room counts pool k v d lt miss =
 
 -- ---- a row taken out
 
-not_empty : (m : State) (k : List ℕ) (v : List Value) (n : ℕ) → map.len m ≡ n → map.get m k ≡ Some v → 0 < n
+pub not_empty : (m : State) (k : List ℕ) (v : List Value) (n : ℕ) → map.len m ≡ n → map.get m k ≡ Some v → 0 < n
 not_empty m k v zero e is = absurd (clash (sym (get-empty (slice_cmp nat_cmp) k) ∙ ap (λ (x : State). map.get x k) (sym (empty_of_len m e)) ∙ is))
   where
     clash : {A : Type 0} {x : A} → None ≡ Some x → ⊥
@@ -215,7 +215,7 @@ both_none false o e = refl
 no_rows : (size b : ℕ) (q : List ℕ) → map.get (part size nothing b) q ≡ map.get nothing q
 no_rows size b q = get_part size nothing b q ∙ both_none (nat_eq (bucket size q) b) (map.get nothing q) (get-empty (slice_cmp nat_cmp) q) ∙ sym (get-empty (slice_cmp nat_cmp) q)
 
-no_len : (size b : ℕ) → map.len (part size nothing b) ≡ 0
+pub no_len : (size b : ℕ) → map.len (part size nothing b) ≡ 0
 no_len size b = ap map.len (same_state (part size nothing b) nothing (no_rows size b)) ∙ len-empty (slice_cmp nat_cmp) (List Value)
 
 pub stored_none : (size pool room : ℕ) (counts : List ℕ) (es : List Entry) → 0 < size → es ≡ [] → counts ≡ replicate size 0 → room ≡ size + pool → IsStored es room counts pool

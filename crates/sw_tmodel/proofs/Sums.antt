@@ -1,4 +1,4 @@
-use Rattle.std.proofs.Common.{◌≡◌, ◌≢◌, ℕ, zero, suc, ◌+◌, ◌<◌, ◌⊎◌, inl, inr, refl, ap, arith}
+use Rattle.std.proofs.Common.{◌≡◌, ◌≢◌, ℕ, zero, suc, ◌+◌, ◌-◌, ◌<◌, ◌≤◌, ◌⊎◌, inl, inr, refl, ap, arith}
 use Rattle.std.proofs.Math.Nat.{eq-or-lt_of_le}
 use Rattle.sw_tmodel.specs.Table.{sum_below}
 
@@ -30,3 +30,20 @@ sum_change f g b (suc n) lt e =
           let last : f n ≡ g n = e n (λ same. absurd (omega (arith, same, below))) in
           omega arith
     ]
+
+-- a sum of nothing
+pub sum_zero : (f : ℕ → ℕ) (n : ℕ) → ((b : ℕ) → f b ≡ 0) → sum_below f n ≡ 0
+unfolding sum_below
+sum_zero f zero e = refl
+sum_zero f (suc n) e =
+    let front : sum_below f n ≡ 0 = sum_zero f n e in
+    let last : f n ≡ 0 = e n in
+    omega arith
+
+-- one taken from each member takes no more than there are members
+pub sum_less_one : (f : ℕ → ℕ) (n : ℕ) → sum_below f n ≤ sum_below (λ b. f b - 1) n + n
+unfolding sum_below
+sum_less_one f zero = omega arith
+sum_less_one f (suc n) =
+    let front : sum_below f n ≤ sum_below (λ b. f b - 1) n + n = sum_less_one f n in
+    omega arith

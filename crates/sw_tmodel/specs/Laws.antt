@@ -1,4 +1,4 @@
-use Rattle.std.specs.Prelude.{◌≡◌, ◌≢◌, ℕ, ◌≤◌, ◌<◌, List, [], ◌∷◌, Option, Some, None, true, IsSome, nat_lt, ℤ, ◌+ℤ◌}
+use Rattle.std.specs.Prelude.{◌≡◌, ◌≢◌, ℕ, ◌+◌, ◌-◌, ◌*◌, ◌^◌, ◌≤◌, ◌<◌, List, [], ◌∷◌, Option, Some, None, true, false, IsSome, nat_lt, ℤ, ◌+ℤ◌}
 use Rattle.std.specs.FinMap as map
 use Rattle.sw_data.specs.declared.table.Value.{Value}
 use Rattle.sw_data.specs.declared.table.Value.TheVariants as values
@@ -10,7 +10,8 @@ use Rattle.sw_column.specs.Columns.{place, IsSchema}
 use Rattle.sw_column.specs.Values.{IsRow}
 use Rattle.sw_tmodel.specs.Rows.{size_of}
 use Rattle.sw_column.specs.Fit.{fits, call_fault}
-use Rattle.sw_tmodel.specs.Table.{State, Shape, Step, bucket, part, used, TStep}
+use Rattle.sw_tmodel.specs.Table.{State, Shape, Step, Entry, bucket, part, used, TStep, needs_pool, after}
+use Rattle.sw_tmodel.specs.Plain.{raised}
 
 -- the key of a call, if it has one
 abbrev pub key_of : Call → Option (List ℕ)
@@ -45,23 +46,41 @@ SetThenIncr = (t : Shape) (s : State) (key name : List ℕ) (n by : ℤ) → IsS
     → (TStep t s (Set key ((name, values.Int n) ∷ []))).reply ≡ Stored → fits (size_of t.columns name) (n +ℤ by) ≡ true
     → (TStep t (TStep t s (Set key ((name, values.Int n) ∷ []))).state (Incr key name by)).reply ≡ replies.Value (n +ℤ by)
 
--- two states look alike from a bucket: the rows of the bucket, whether the pool has room, and the number of keys
-pub record LookAlike (t : Shape) (s z : State) (b : ℕ) : Type 0 where
+-- two states look alike to a call: the rows of its key's bucket, and, where it needs the pool, whether the pool has room
+pub record LookAlike (t : Shape) (s z : State) (call : Call) (b : ℕ) : Type 0 where
   pub rows : part t.size s b ≡ part t.size z b
-  pub pool : nat_lt (used t.size s) t.pool ≡ nat_lt (used t.size z) t.pool
-  pub count : map.len s ≡ map.len z
+  pub pool : needs_pool t s call ≡ true → nat_lt (used t.size s) t.pool ≡ nat_lt (used t.size z) t.pool
 
 -- two steps answer the same, leave the same rows in a bucket, and change the number of keys alike
-pub record AnswerAlike (t : Shape) (m n : Step) (b : ℕ) : Type 0 where
+pub record AnswerAlike (t : Shape) (s z : State) (m n : Step) (b : ℕ) : Type 0 where
   pub reply : m.reply ≡ n.reply
   pub cells : m.cells ≡ n.cells
   pub rows : part t.size m.state b ≡ part t.size n.state b
-  pub count : map.len m.state ≡ map.len n.state
+  pub count : map.len m.state + map.len z ≡ map.len n.state + map.len s
 
--- what a call answers and changes follows from its key's bucket, from whether the pool has room, and from the number of keys
+-- what a call answers and changes follows from its key's bucket, and, where it needs the pool, from whether that has room
 abbrev pub BucketDecides : Type 0
-BucketDecides = (t : Shape) (s z : State) (call : Call) (key : List ℕ) → key_of call ≡ Some key → LookAlike t s z (bucket t.size key)
-    → AnswerAlike t (TStep t s call) (TStep t z call) (bucket t.size key)
+BucketDecides = (t : Shape) (s z : State) (call : Call) (key : List ℕ) → key_of call ≡ Some key → LookAlike t s z call (bucket t.size key)
+    → AnswerAlike t s z (TStep t s call) (TStep t z call) (bucket t.size key)
+
+-- the number of keys changes as the rows of the call's bucket do
+abbrev pub CountFollows : Type 0
+CountFollows = (t : Shape) (s : State) (call : Call) (key : List ℕ) → key_of call ≡ Some key
+    → map.len (TStep t s call).state + map.len (part t.size s (bucket t.size key)) ≡ map.len s + map.len (part t.size (TStep t s call).state (bucket t.size key))
+
+-- the rows of the pool change as those behind the first row of the call's bucket do
+abbrev pub PoolFollows : Type 0
+PoolFollows = (t : Shape) (s : State) (call : Call) (key : List ℕ) → 0 < t.size → key_of call ≡ Some key
+    → used t.size (TStep t s call).state + (map.len (part t.size s (bucket t.size key)) - 1) ≡ used t.size s + (map.len (part t.size (TStep t s call).state (bucket t.size key)) - 1)
+
+-- a call that doesn't need the pool leaves it
+abbrev pub PoolStays : Type 0
+PoolStays = (t : Shape) (s : State) (call : Call) (key : List ℕ) → 0 < t.size → key_of call ≡ Some key → needs_pool t s call ≡ false
+    → used t.size (TStep t s call).state ≡ used t.size s
+
+-- whatever was called, the pool isn't overdrawn, and there are no more rows than buckets and pool
+abbrev pub RowsBounded : Type 0
+RowsBounded = (t : Shape) (es : List Entry) → 0 < t.size → (used t.size (after t es) ≤ t.pool) × (map.len (after t es) ≤ t.size + t.pool)
 
 -- a count of the rows answers their number, and changes nothing
 abbrev pub CountCounts : Type 0
@@ -71,3 +90,14 @@ CountCounts = (t : Shape) (s : State) → ((TStep t s Count).reply ≡ replies.C
 abbrev pub OtherBuckets : Type 0
 OtherBuckets = (t : Shape) (s : State) (call : Call) (key : List ℕ) (b : ℕ) → key_of call ≡ Some key → b ≢ bucket t.size key
     → part t.size (TStep t s call).state b ≡ part t.size s b
+
+-- the least power of two that is n or more, at least 64: half of it wouldn't do
+pub record IsRaised (n size : ℕ) : Type 0 where
+  pub power : (k : ℕ) × (size ≡ 2 ^ k)
+  pub least : 64 ≤ size
+  pub enough : n ≤ size
+  pub tight : 64 < size → size < 2 * n
+
+-- the size of a Table is that, for each size that may be asked for
+abbrev pub SizeIsRaised : Type 0
+SizeIsRaised = (n : ℕ) → n ≤ 524288 → IsRaised n (raised n)

@@ -1,4 +1,4 @@
-use Rattle.std.specs.Prelude.{◌≡◌, ℕ, zero, suc, ◌+◌, ◌-◌, ◌%◌, List, [], ◌∷◌, Option, Some, None, Bool, true, false, ◌||◌, nat_eq, nat_lt, unwrap_or, if◌then◌else◌, ℤ, ◌+ℤ◌, ◌-ℤ◌}
+use Rattle.std.specs.Prelude.{◌≡◌, ℕ, zero, suc, ◌+◌, ◌-◌, ◌%◌, List, [], ◌∷◌, Option, Some, None, Bool, true, false, not, ◌&&◌, ◌||◌, nat_eq, nat_lt, nat_le, unwrap_or, if◌then◌else◌, ℤ, ◌+ℤ◌, ◌-ℤ◌}
 use Rattle.std.specs.Ordering.{nat_cmp}
 use Rattle.std.specs.Cmp.Lexicographic.{slice_cmp}
 use Rattle.std.specs.FinMap as map
@@ -95,6 +95,24 @@ TStep t s (Del key) = del_step (map.contains_key s key) s key
 TStep t s (Incr key name by) = add t s key name (number_of t.columns (row_of t s key) name +ℤ by)
 TStep t s (Decr key name by) = add t s key name (number_of t.columns (row_of t s key) name -ℤ by)
 TStep t s Count = answers s (replies.Count (map.len s))
+
+-- a write needs the pool where its key is missing and its bucket is occupied
+abbrev pub write_needs_pool : Shape → State → List ℕ → Bool
+write_needs_pool t s key = not (map.contains_key s key) && not (nat_eq (map.len (part t.size s (bucket t.size key))) 0)
+
+-- a Del needs it where its key is there in a bucket of two or more rows
+abbrev pub del_needs_pool : Shape → State → List ℕ → Bool
+del_needs_pool t s key = map.contains_key s key && nat_le 2 (map.len (part t.size s (bucket t.size key)))
+
+-- whether a call needs the pool; one whose number doesn't fit doesn't
+abbrev pub needs_pool : Shape → State → Call → Bool
+needs_pool t s (Set key pairs) = write_needs_pool t s key
+needs_pool t s (Get key) = false
+needs_pool t s (Exist key) = false
+needs_pool t s (Del key) = del_needs_pool t s key
+needs_pool t s (Incr key name by) = fits (size_of t.columns name) (number_of t.columns (row_of t s key) name +ℤ by) && write_needs_pool t s key
+needs_pool t s (Decr key name by) = fits (size_of t.columns name) (number_of t.columns (row_of t s key) name -ℤ by) && write_needs_pool t s key
+needs_pool t s Count = false
 
 -- a call with what it was answered
 pub record Entry : Type 0 where

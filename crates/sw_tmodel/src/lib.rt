@@ -12,8 +12,9 @@ mod steps;
 mod store;
 
 pub use laws::{
-    bucket_decides, count_counts_keys, full_means_full, other_buckets_stay, other_keys_stay,
-    rows_keep_their_shape, set_then_incr_adds,
+    bucket_decides, count_counts_keys, count_follows_bucket, full_means_full, other_buckets_stay,
+    other_keys_stay, pool_follows_bucket, pool_stays, rows_are_bounded, rows_keep_their_shape,
+    set_then_incr_adds, size_is_raised,
 };
 pub use plain::Plain;
 

@@ -4,97 +4,135 @@ ghost use Rattle.sw_column.specs.Values.{HasKinds};
 use crate::Plain;
 use std::alloc::Global;
 use std::test::Fail;
-use sw_column::{Kind, RowBuf, Schema};
-use sw_data::{Call, CallFault, Key, Name, OutOfMemory, Pairs, Reply};
+use sw_column::{Cell, Kind, RowBuf, Schema};
+use sw_data::{Call, CallFault, Key, Name, Octets, OutOfMemory, Pairs, Reply, Value};
 use sw_ports::Placed;
 
 fn key(alloc: Global, text: &[u8]) -> Result<Key, OutOfMemory> {
     Ok(Key::of(Vec::from_slice(alloc, text)?))
 }
 
-fn numbers(alloc: Global) -> Result<Schema, Fail> {
-    let mut schema = Schema::new(alloc);
-    schema.column(b"n", Kind::Int, 1)?;
-    Ok(schema)
+fn name(alloc: Global, text: &[u8]) -> Result<Name, OutOfMemory> {
+    Ok(Name::of(Vec::from_slice(alloc, text)?))
 }
 
-/// Sets a row without pairs.
-fn set(
-    alloc: Global,
-    plain: &mut Plain,
-    row: &mut RowBuf,
-    text: &[u8],
-) -> Result<Result<Placed, CallFault>, OutOfMemory>
+/// A call that sets a row without pairs.
+fn set(alloc: Global, text: &[u8]) -> Result<Call, OutOfMemory> {
+    Ok(Call::Set(key(alloc, text)?, Pairs::new(alloc)))
+}
+
+/// A call that writes a text into the column `s`.
+fn set_text(alloc: Global, text: &[u8], value: &[u8]) -> Result<Call, OutOfMemory> {
+    let mut pairs = Pairs::new(alloc);
+    let value = Octets::of(Vec::from_slice(alloc, value)?);
+    pairs.push((name(alloc, b"s")?, Value::Text(value)))?;
+    Ok(Call::Set(key(alloc, text)?, pairs))
+}
+
+fn incr(alloc: Global, by: i64) -> Result<Call, OutOfMemory> {
+    Ok(Call::Incr(key(alloc, b"k")?, name(alloc, b"n")?, by))
+}
+
+fn decr(alloc: Global, by: i64) -> Result<Call, OutOfMemory> {
+    Ok(Call::Decr(key(alloc, b"k")?, name(alloc, b"n")?, by))
+}
+
+/// Makes a call.
+fn ask(plain: &mut Plain, row: &mut RowBuf, call: &Call) -> Result<Placed, CallFault>
     requires { HasKinds plain.old.columns row.old }
     ensures columns { plain.new.columns ≡ plain.old.columns }
     ensures kinds { HasKinds plain.old.columns row.new }
 {
-    let key = key(alloc, text)?;
-    let call = Call::Set(key, Pairs::new(alloc));
-    Ok(plain.call(&call, row))
-}
-
-/// Counts up in the only column.
-fn incr(
-    alloc: Global,
-    plain: &mut Plain,
-    row: &mut RowBuf,
-    by: i64,
-) -> Result<Result<Placed, CallFault>, OutOfMemory>
-    requires { HasKinds plain.old.columns row.old }
-    ensures columns { plain.new.columns ≡ plain.old.columns }
-    ensures kinds { HasKinds plain.old.columns row.new }
-{
-    let key = key(alloc, b"k")?;
-    let name = key_name(alloc)?;
-    let call = Call::Incr(key, name, by);
-    Ok(plain.call(&call, row))
-}
-
-fn key_name(alloc: Global) -> Result<Name, OutOfMemory> {
-    Ok(Name::of(Vec::from_slice(alloc, b"n")?))
+    plain.call(call, row)
 }
 
 fn placed(at: u64, reply: Reply) -> Result<Placed, CallFault> {
     Ok(Placed { at, reply })
 }
 
+/// Whether a buffer holds a number and a text.
+fn holds(row: &RowBuf, n: i64, text: &[u8]) -> bool {
+    if row.len() != 2 {
+        return false;
+    }
+    match row.cell(0) {
+        Cell::Int(m) if *m == n => (),
+        _ => return false,
+    }
+    match row.cell(1) {
+        Cell::Text(t) => t.text() == text,
+        Cell::Int(_) => false,
+    }
+}
+
 #[test]
 fn a_bucket_and_its_pool(rt: HostRuntime) -> Result<(), Fail> {
-    let schema = numbers(rt.alloc())?;
-    let mut row = RowBuf::make(rt.alloc(), &schema)?;
-    let mut plain = Plain::make(rt.alloc(), schema, 64, 2, 8)?;
+    let alloc = rt.alloc();
+    let mut schema = Schema::new(alloc);
+    schema.column(b"n", Kind::Int, 8)?;
+    let mut row = RowBuf::make(alloc, &schema)?;
+    let mut plain = Plain::make(alloc, schema, 64, 2, 8)?;
     assert_eq!(rt;
-        set(rt.alloc(), &mut plain, &mut row, b"Aa")?,
+        ask(&mut plain, &mut row, &set(alloc, b"Aa")?),
         placed(0, Reply::Stored)
     );
     assert_eq!(rt;
-        set(rt.alloc(), &mut plain, &mut row, b"BB")?,
+        ask(&mut plain, &mut row, &set(alloc, b"BB")?),
         placed(1, Reply::Stored)
     );
     assert_eq!(rt;
-        set(rt.alloc(), &mut plain, &mut row, b"C#")?,
+        ask(&mut plain, &mut row, &set(alloc, b"C#")?),
         placed(2, Reply::Full)
+    );
+    assert_eq!(rt;
+        ask(&mut plain, &mut row, &set(alloc, b"a")?),
+        placed(3, Reply::Stored)
+    );
+    let del = Call::Del(key(alloc, b"Aa")?);
+    assert_eq!(rt; ask(&mut plain, &mut row, &del), placed(4, Reply::Yes));
+    assert_eq!(rt;
+        ask(&mut plain, &mut row, &set(alloc, b"C#")?),
+        placed(5, Reply::Stored)
+    );
+    let get = Call::Get(key(alloc, b"BB")?);
+    assert_eq!(rt; ask(&mut plain, &mut row, &get), placed(6, Reply::Found));
+    assert_eq!(rt;
+        ask(&mut plain, &mut row, &Call::Count),
+        placed(7, Reply::Count(3))
+    );
+    assert_eq!(rt;
+        ask(&mut plain, &mut row, &Call::Count),
+        Err(CallFault::Spent(8))
     );
     Ok(())
 }
 
 #[test]
-fn a_number_and_its_range(rt: HostRuntime) -> Result<(), Fail> {
-    let schema = numbers(rt.alloc())?;
-    let mut row = RowBuf::make(rt.alloc(), &schema)?;
-    let mut plain = Plain::make(rt.alloc(), schema, 64, 20, 2)?;
+fn numbers_and_texts(rt: HostRuntime) -> Result<(), Fail> {
+    let alloc = rt.alloc();
+    let mut schema = Schema::new(alloc);
+    schema.column(b"n", Kind::Int, 1)?;
+    schema.column(b"s", Kind::Text, 4)?;
+    let mut row = RowBuf::make(alloc, &schema)?;
+    let mut plain = Plain::make(alloc, schema, 64, 20, 5)?;
     assert_eq!(rt;
-        incr(rt.alloc(), &mut plain, &mut row, 127)?,
+        ask(&mut plain, &mut row, &incr(alloc, 127)?),
         placed(0, Reply::Value(127))
     );
     assert_eq!(rt;
-        incr(rt.alloc(), &mut plain, &mut row, 1)?,
+        ask(&mut plain, &mut row, &incr(alloc, 1)?),
         placed(1, Reply::Range)
     );
+    let long = set(alloc, &[107u8; 64])?;
+    assert_eq!(rt; ask(&mut plain, &mut row, &long), Err(CallFault::BadKey));
+    let text = set_text(alloc, b"k", b"abcde")?;
+    assert_eq!(rt; ask(&mut plain, &mut row, &text), placed(2, Reply::Stored));
+    let get = Call::Get(key(alloc, b"k")?);
+    assert_eq!(rt; ask(&mut plain, &mut row, &get), placed(3, Reply::Found));
+    assert!(rt; holds(&row, 127, b"abcd"));
     assert_eq!(rt;
-        incr(rt.alloc(), &mut plain, &mut row, 0)?,
-        Err(CallFault::Spent(2))
+        ask(&mut plain, &mut row, &decr(alloc, 255)?),
+        placed(4, Reply::Value(-128))
     );
     Ok(())
 }

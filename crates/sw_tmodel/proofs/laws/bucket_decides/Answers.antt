@@ -1,4 +1,4 @@
-use Rattle.sw_tmodel.proofs.StepLaws.{bucket_decides as law}
+use Rattle.sw_tmodel.proofs.AlikeLaws.{bucket_decides as law}
 use Rattle.sw_tmodel.proofs.laws.bucket_decides.Goals as goal
 
 pub returns : goal.returns
