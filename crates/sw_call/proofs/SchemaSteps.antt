@@ -3,7 +3,7 @@ use Rattle.std.proofs.lemmas.List.{at_drop_more, drop_all}
 use Rattle.sw_column.specs.declared.column.Column.{Column}
 use Rattle.sw_column.specs.declared.column.ColumnFault.{ColumnFault}
 use Rattle.sw_column.specs.Columns.{column_fault}
-use Rattle.sw_call.specs.declared.columns.Refused.{Refused}
+use Rattle.sw_call.specs.declared.column_texts.Refused.{Refused}
 use Rattle.sw_call.specs.Columns.{joined, schema_with}
 
 abbrev fault_of : List Column → Column → Option ColumnFault

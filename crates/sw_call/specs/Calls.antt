@@ -8,8 +8,8 @@ use Rattle.sw_data.specs.declared.table.Value.{Value}
 use Rattle.sw_data.specs.declared.table.Call.{Call}
 use Rattle.sw_data.specs.declared.table.Call.TheVariants as calls
 use Rattle.sw_column.specs.Columns.{is_name}
-use Rattle.sw_call.specs.declared.verb.Verb.{Verb}
-use Rattle.sw_call.specs.declared.verb.Verb.TheVariants as verbs
+use Rattle.sw_call.specs.declared.verbs.Verb.{Verb}
+use Rattle.sw_call.specs.declared.verbs.Verb.TheVariants as verbs
 use Rattle.sw_call.specs.Pieces.{items_in}
 use Rattle.sw_call.specs.Values.{value_of}
 

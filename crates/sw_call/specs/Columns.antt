@@ -9,7 +9,7 @@ use Rattle.sw_column.specs.declared.column.ColumnFault.{ColumnFault}
 use Rattle.sw_column.specs.declared.column.Kind.{Kind}
 use Rattle.sw_column.specs.declared.column.Kind.TheVariants.{Int, Text, Float}
 use Rattle.sw_column.specs.Columns.{column_fault}
-use Rattle.sw_call.specs.declared.columns.Refused.{Refused}
+use Rattle.sw_call.specs.declared.column_texts.Refused.{Refused}
 use Rattle.sw_call.specs.Pieces.{items_in}
 
 -- int, string or float

@@ -1,7 +1,7 @@
 use Rattle.std.specs.Prelude.{ℕ, List, Option, Some, None}
 use Rattle.std.specs.Borrow.{Bor}
 use Rattle.std.specs.Option.{option_map}
-use Rattle.sw_call.specs.declared.verb.Verb.{Verb}
+use Rattle.sw_call.specs.declared.verbs.Verb.{Verb}
 
 -- a verb and the text of its key, without where it lies in memory
 abbrev pub verb_seen : Option (Verb × Bor (List ℕ)) → Option (Verb × List ℕ)

@@ -7,7 +7,7 @@ ghost use Rattle.sw_call.specs.Views.{verb_seen};
 
 use crate::pieces::first_piece;
 use crate::values::value;
-use crate::verb::Verb;
+use crate::verbs::Verb;
 use std::alloc::Global;
 use sw_column::is_name;
 use sw_data::{Call, Key, Name, OutOfMemory, Pairs, Value};
@@ -42,13 +42,13 @@ fn pairs(alloc: Global, text: &[u8]) -> Result<Option<Pairs>, OutOfMemory>
         }
         match after {
             None => return Ok(Some(pairs)),
-            Some(text) => rest = text,
+            Some(more) => rest = more,
         }
     }
 }
 
 fn pairs_behind(alloc: Global, rest: Option<&[u8]>) -> Result<Option<Pairs>, OutOfMemory>
-    ensures { IfOk result (λ ps. ps ≡ pairs_behind (option_copied rest)) }
+    ensures { IfOk result (λ ps. ps ≡ pairs_behind (option_copied rest.entry)) }
 {
     match rest {
         None => Ok(Some(Pairs::new(alloc))),
@@ -58,7 +58,7 @@ fn pairs_behind(alloc: Global, rest: Option<&[u8]>) -> Result<Option<Pairs>, Out
 
 #[tactic(auto, unfolding(crate::specs::Calls::set_of))]
 fn set(alloc: Global, rest: Option<&[u8]>) -> Result<Option<Verb>, OutOfMemory>
-    ensures { IfOk result (λ v. v ≡ set_of (option_copied rest)) }
+    ensures { IfOk result (λ v. v ≡ set_of (option_copied rest.entry)) }
 {
     match pairs_behind(alloc, rest)? {
         None => Ok(None),
@@ -68,7 +68,7 @@ fn set(alloc: Global, rest: Option<&[u8]>) -> Result<Option<Verb>, OutOfMemory>
 
 /// The verb, where nothing follows its key.
 fn alone(verb: Verb, rest: Option<&[u8]>) -> Option<Verb>
-    ensures { result ≡ alone verb (option_copied rest) }
+    ensures { result ≡ alone verb (option_copied rest.entry) }
 {
     match rest {
         None => Some(verb),
@@ -94,7 +94,7 @@ fn step(alloc: Global, text: &[u8]) -> Result<Option<(Name, i64)>, OutOfMemory>
 }
 
 fn step_behind(alloc: Global, rest: Option<&[u8]>) -> Result<Option<(Name, i64)>, OutOfMemory>
-    ensures { IfOk result (λ s. s ≡ step_behind (option_copied rest)) }
+    ensures { IfOk result (λ s. s ≡ step_behind (option_copied rest.entry)) }
 {
     match rest {
         None => Ok(None),
@@ -104,7 +104,7 @@ fn step_behind(alloc: Global, rest: Option<&[u8]>) -> Result<Option<(Name, i64)>
 
 #[tactic(auto, unfolding(crate::specs::Calls::incr_of))]
 fn incr(alloc: Global, rest: Option<&[u8]>) -> Result<Option<Verb>, OutOfMemory>
-    ensures { IfOk result (λ v. v ≡ incr_of (option_copied rest)) }
+    ensures { IfOk result (λ v. v ≡ incr_of (option_copied rest.entry)) }
 {
     match step_behind(alloc, rest)? {
         None => Ok(None),
@@ -114,7 +114,7 @@ fn incr(alloc: Global, rest: Option<&[u8]>) -> Result<Option<Verb>, OutOfMemory>
 
 #[tactic(auto, unfolding(crate::specs::Calls::decr_of))]
 fn decr(alloc: Global, rest: Option<&[u8]>) -> Result<Option<Verb>, OutOfMemory>
-    ensures { IfOk result (λ v. v ≡ decr_of (option_copied rest)) }
+    ensures { IfOk result (λ v. v ≡ decr_of (option_copied rest.entry)) }
 {
     match step_behind(alloc, rest)? {
         None => Ok(None),
@@ -124,7 +124,7 @@ fn decr(alloc: Global, rest: Option<&[u8]>) -> Result<Option<Verb>, OutOfMemory>
 
 /// The verb of this word, with what follows its key.
 fn verb_named(alloc: Global, word: &[u8], rest: Option<&[u8]>) -> Result<Option<Verb>, OutOfMemory>
-    ensures { IfOk result (λ v. v ≡ verb_named word.now (option_copied rest)) }
+    ensures { IfOk result (λ v. v ≡ verb_named word.now (option_copied rest.entry)) }
 {
     if is(word, "set") {
         return set(alloc, rest);

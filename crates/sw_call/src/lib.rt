@@ -4,16 +4,16 @@
 
 mod answer;
 mod calls;
-mod columns;
+mod column_texts;
 mod pieces;
 mod values;
-mod verb;
+mod verbs;
 
 pub use answer::{Replied, reply};
 pub use calls::{call, verb};
-pub use columns::{Columns, Refused, columns, schema};
+pub use column_texts::{Columns, Refused, columns, schema};
 pub use values::value;
-pub use verb::Verb;
+pub use verbs::Verb;
 
 #[cfg(test)]
 mod tests;

@@ -64,7 +64,7 @@ pub fn values(alloc: Global, text: &[u8]) -> Result<Option<Cells>, OutOfMemory>
         }
         match after {
             None => return Ok(Some(values)),
-            Some(text) => rest = text,
+            Some(more) => rest = more,
         }
     }
 }

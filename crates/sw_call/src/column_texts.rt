@@ -87,7 +87,7 @@ pub fn columns(alloc: Global, text: &[u8]) -> Result<Option<Columns>, OutOfMemor
         }
         match after {
             None => return Ok(Some(columns)),
-            Some(text) => rest = text,
+            Some(more) => rest = more,
         }
     }
 }

@@ -1,0 +1,6 @@
+pub mod LineSteps
+pub mod GrammarLaw
+pub mod ValueLaws
+pub mod LateSteps
+pub mod PlaceLaws
+pub mod LeastLaws

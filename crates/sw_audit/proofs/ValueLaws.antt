@@ -1,0 +1,74 @@
+use Rattle.std.proofs.Common.{◌≡◌, ℕ, ◌<◌, Bool, true, false, List, [], ◌∷◌, length, Option, Some, None, refl, sym, ap, subst, ◌∙◌, arith, Decides, MatchBool}
+use Rattle.std.specs.Prelude.{ℤ, ◌+ℤ◌, ◌-ℤ◌, nat_eq, cond}
+use Rattle.std.specs.Ordering.{int_eq}
+use Rattle.std.specs.Str.{bytes_eq}
+use Rattle.std.proofs.lemmas.Slice.Eq.{bytes_eq-Decides}
+use Rattle.std.proofs.lemmas.Bool.Decides.{Decides-int_eq}
+use Rattle.sw_data.specs.declared.table.Value.{Value}
+use Rattle.sw_data.specs.declared.table.Value.TheVariants.{Int, Text}
+use Rattle.sw_data.specs.declared.table.Call.{Call}
+use Rattle.sw_data.specs.declared.table.Call.TheVariants.{Set, Get, Exist, Del, Incr, Decr, Count}
+use Rattle.sw_data.specs.declared.table.CallFault.{CallFault}
+use Rattle.sw_column.specs.Fit.{call_fault, fits as fits_size}
+use Rattle.sw_tmodel.specs.Table.{Shape, State, Step, TStep, answers, set_step, get_step, del_step, add_step, add, may_write, row_of}
+use Rattle.sw_tmodel.specs.Rows.{with_value, with_pairs, number_of, size_of}
+use Rattle.std.specs.FinMap as map_of
+use Rattle.sw_data.specs.declared.table.Reply.TheVariants.{Yes, No}
+use Rattle.sw_data.specs.declared.table.Value.TheVariants as values
+use Rattle.std.proofs.lemmas.Bool.{ne_eqb}
+use Rattle.sw_tmodel.specs.Plain.{PlainTable, plain_fault, shown}
+use Rattle.sw_audit.specs.Judging.{is_same, shown_by}
+
+-- ---- equal values
+
+pub same_value : (a b : Value) → Decides (is_same a b) (a ≡ b)
+same_value (Int m) (Int n) = let d = Decides-int_eq m n in (λ e. ap Int (d.0 e), λ e. let same : m ≡ n = cc in d.1 same)
+same_value (Int m) (Text t) = (λ e. absurd cc, λ e. absurd cc)
+same_value (Text t) (Int n) = (λ e. absurd cc, λ e. absurd cc)
+same_value (Text s) (Text t) = let d = bytes_eq-Decides s t in (λ e. ap Text (d.0 e), λ e. let same : s ≡ t = cc in d.1 same)
+
+-- ---- a row comes with no reply but Found
+
+abbrev IsShown : Step → List Value → Type 0
+IsShown step row = step.cells ≡ shown_by step.reply (shown step row)
+
+set_shown : (t : Bool) (s : State) (key : List ℕ) (new row : List Value) → IsShown (set_step t s key new) row
+set_shown true s key new row = refl
+set_shown false s key new row = refl
+
+get_shown : (s : State) (o : Option (List Value)) (row : List Value) → IsShown (get_step s o) row
+get_shown s None row = refl
+get_shown s (Some cells) row = refl
+
+del_shown : (t : Bool) (s : State) (key : List ℕ) (row : List Value) → IsShown (del_step t s key) row
+del_shown true s key row = refl
+del_shown false s key row = refl
+
+add_shown : (fit write : Bool) (s : State) (key : List ℕ) (new row : List Value) (n : ℤ) → IsShown (add_step fit write s key new n) row
+add_shown false write s key new row n = refl
+add_shown true false s key new row n = refl
+add_shown true true s key new row n = refl
+
+exist_shown : (t : Bool) (s : State) (row : List Value) → IsShown (answers s (cond t Yes No)) row
+exist_shown true s row = refl
+exist_shown false s row = refl
+
+added : (t : Shape) (s : State) (key name : List ℕ) (n : ℤ) (row : List Value) → IsShown (add t s key name n) row
+added t s key name n row = add_shown (fits_size (size_of t.columns name) n) (may_write t s key) s key (with_value t.columns (row_of t s key) name (values.Int n)) row n
+
+pub step_shown : (t : Shape) (s : State) (call : Call) (row : List Value) → IsShown (TStep t s call) row
+step_shown t s (Set key pairs) row = set_shown (may_write t s key) s key (with_pairs t.columns (row_of t s key) pairs) row
+step_shown t s (Get key) row = get_shown s (map_of.get s key) row
+step_shown t s (Exist key) row = exist_shown (map_of.contains_key s key) s row
+step_shown t s (Del key) row = del_shown (map_of.contains_key s key) s key row
+step_shown t s (Incr key name by) row = added t s key name (number_of t.columns (row_of t s key) name +ℤ by) row
+step_shown t s (Decr key name by) row = added t s key name (number_of t.columns (row_of t s key) name -ℤ by) row
+step_shown t s Count row = refl
+
+-- ---- a call that fits has a place, as long as places are left
+
+pub has_place : (p : PlainTable) (call : Call) (fault : CallFault) → call_fault p.columns call ≡ None → p.calls < p.last_call → plain_fault p call ≡ Some fault → ⊥
+has_place p call fault fits room is =
+    let other : nat_eq p.calls p.last_call ≡ false = ne_eqb p.calls p.last_call (omega (arith, room)) in
+    let none : None ≡ Some fault = rw (fits, other) at is in
+    cc
