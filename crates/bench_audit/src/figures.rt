@@ -35,7 +35,11 @@ pub fn figures<R: Print + Clock>(rt: &R, alloc: Global) -> io::Result<()> {
         let verdict = audit(alloc, text.as_bytes());
         let nanos = start.elapsed(rt)?.as_nanos();
         let (word, number) = shown(verdict);
-        println!(rt; "{word} {number}: {} ms, {} ns a call", nanos / 1_000_000, nanos / calls as u128)?;
+        println!(rt;
+            "{word} {number}: {} ms, {} ns a call",
+            nanos / 1_000_000,
+            nanos / calls as u128
+        )?;
     }
     Ok(())
 }

@@ -4,3 +4,4 @@ pub mod ValueLaws
 pub mod LateSteps
 pub mod PlaceLaws
 pub mod LeastLaws
+pub mod SortLaws

@@ -33,7 +33,7 @@ none_at (x ∷ xs) q all = miss x xs q all.0 ∙ none_at xs q all.1
 none_from : (xs : List TraceLine) (k q : ℕ) → ((i : ℕ) (d : TraceLine) → k ≤ i → i < length xs → ¬ ((get_or xs i d).at ≡ q)) → lines_at (drop k xs) q ≡ []
 none_from xs k q all =
     none_at (drop k xs) q (recursion_from_All (λ (x : TraceLine). ¬ (x.at ≡ q)) (drop k xs)
-        (λ i d lt. subst (λ (x : TraceLine). ¬ (x.at ≡ q)) (sym (get_or-drop k xs i d)) (all (k + i) d (omega arith) (omega (arith, lt, length-drop k xs)))))
+    (λ i d lt. subst (λ (x : TraceLine). ¬ (x.at ≡ q)) (sym (get_or-drop k xs i d)) (all (k + i) d (omega arith) (omega (arith, lt, length-drop k xs)))))
 
 split_at : (xs : List TraceLine) (i : ℕ) (x : TraceLine) → i < length xs → x ≡ get_or xs i x → drop i xs ≡ x ∷ drop (i + 1) xs
 split_at xs i x lt is =
@@ -44,8 +44,8 @@ split_at xs i x lt is =
 line_at : (xs : List TraceLine) (i : ℕ) (e : TraceLine) → slice_get xs i ≡ Some e → (i < length xs) × ((d : TraceLine) → get_or xs i d ≡ e)
 line_at xs i e is =
     ⊎_elim (λ lt. (lt, λ d. let there : Some (get_or xs i d) ≡ Some e = sym (slice_get-get_or xs i d lt) ∙ is in cc))
-        (λ le. let none : None ≡ Some e = sym (slice_get_past xs i le) ∙ is in absurd cc)
-        (cases_lt i (length xs))
+    (λ le. let none : None ≡ Some e = sym (slice_get_past xs i le) ∙ is in absurd cc)
+    (cases_lt i (length xs))
 
 -- ---- the rows after the calls
 
@@ -68,9 +68,10 @@ Rises ls = IsNonDecreasingBy (λ (x : TraceLine). x.at) ls
 missing_here : (ls : List TraceLine) (k : ℕ) (p : PlainTable) → k < length ls → Rises ls → IsReached ls k p → (e : TraceLine) → e ≡ get_or ls k e → ¬ (e.at ≡ k) → IsMissing ls k
 missing_here ls k p lt rises so_far e is other =
     let least = so_far.back k e (omega arith) lt in
-    let here : k ≤ e.at = rw (← is) at least in
-    (so_far.rest k (omega arith) ∙ none_from ls k k (λ i d le within same. let up = rises k i d le within in let first : get_or ls k d ≡ e = get_or_default ls k d e lt ∙ sym is in let up2 : e.at ≤ (get_or ls i d).at = rw first at up in other (omega (arith, here, up2, same))),
-    (e, (k, lt, sym is), omega (arith, here, other)))
+    let here : k ≤ e.at = rw (← is) at least in (
+      so_far.rest k (omega arith) ∙ none_from ls k k (λ i d le within same. let up = rises k i d le within in let first : get_or ls k d ≡ e = get_or_default ls k d e lt ∙ sym is in let up2 : e.at ≤ (get_or ls i d).at = rw first at up in other (omega (arith, here, up2, same))),
+      (e, (k, lt, sym is), omega (arith, here, other)),
+    )
 
 doubled_here : (ls : List TraceLine) (k : ℕ) (p : PlainTable) → k < length ls → IsReached ls k p → (e : TraceLine) → e ≡ get_or ls k e → e.at ≡ k → HasPlace ls (k + 1) k → IsDoubled ls k
 doubled_here ls k p lt so_far e is mine (f, next, its) =
@@ -78,7 +79,7 @@ doubled_here ls k p lt so_far e is mine (f, next, its) =
     let two : drop (k + 1) ls ≡ f ∷ drop (k + 1 + 1) ls = split_at ls (k + 1) f there.0 (sym (there.1 f)) in
     let one : drop k ls ≡ e ∷ f ∷ drop (k + 1 + 1) ls = split_at ls k e lt is ∙ ap (λ (xs : List TraceLine). e ∷ xs) two in
     let all : lines_at ls k ≡ e ∷ f ∷ lines_at (drop (k + 1 + 1) ls) k =
-        so_far.rest k (omega arith) ∙ ap (λ (xs : List TraceLine). lines_at xs k) one ∙ hit e (f ∷ drop (k + 1 + 1) ls) k mine ∙ ap (λ (xs : List TraceLine). e ∷ xs) (hit f (drop (k + 1 + 1) ls) k its) in
+    so_far.rest k (omega arith) ∙ ap (λ (xs : List TraceLine). lines_at xs k) one ∙ hit e (f ∷ drop (k + 1 + 1) ls) k mine ∙ ap (λ (xs : List TraceLine). e ∷ xs) (hit f (drop (k + 1 + 1) ls) k its) in
     rw all (omega arith)
 
 -- behind a place that only one line has, all places are greater
@@ -121,7 +122,7 @@ pub no_place : (ls : List TraceLine) (k : ℕ) (p : PlainTable) → k < length l
 no_place ls k p lt rises so_far not =
     let here = slice_get_cases ls k in
     ⊎_elim (λ (some : (x : TraceLine) × (k < length ls) × (slice_get ls k ≡ Some x) × (get_or ls k x ≡ x)). inl (missing_here ls k p lt rises so_far some.0 (sym some.3) (λ same. not (some.0, some.2, same))))
-        (λ past. absurd (omega (arith, past.0, lt))) here.1
+    (λ past. absurd (omega (arith, past.0, lt))) here.1
 
 pub two_places : (ls : List TraceLine) (k : ℕ) (p : PlainTable) → k < length ls → IsReached ls k p → HasPlace ls k k → HasPlace ls (k + 1) k → IsWrong (shape_of p) ls k
 two_places ls k p lt so_far (e, is, mine) next = inr (inl (doubled_here ls k p lt so_far e (sym ((line_at ls k e is).1 e)) mine next))
@@ -141,8 +142,8 @@ told ls k p false lt rises so_far (f, at, its) single e is tells =
 front_next : (ls : List TraceLine) (k : ℕ) (e : TraceLine) → ((i : ℕ) (d : TraceLine) → i < k → (get_or ls i d).at < k) → e ≡ get_or ls k e → e.at ≡ k → (i : ℕ) (d : TraceLine) → i < k + 1 → k < length ls → (get_or ls i d).at < k + 1
 front_next ls k e front is mine i d below lt =
     ⊎_elim (λ lower. let at = front i d lower in omega (arith, at))
-        (λ le. let same : i ≡ k = omega (arith, le, below) in let place : (get_or ls k d).at ≡ k = ap place_of (get_or_default ls k d e lt ∙ sym is) ∙ mine in rw same (omega (arith, place)))
-        (cases_lt i k)
+    (λ le. let same : i ≡ k = omega (arith, le, below) in let place : (get_or ls k d).at ≡ k = ap place_of (get_or_default ls k d e lt ∙ sym is) ∙ mine in rw same (omega (arith, place)))
+    (cases_lt i k)
 
 pub reached_next : (ls : List TraceLine) (k : ℕ) (p q : PlainTable) → k < length ls → Rises ls → IsReached ls k p → HasPlace ls k k → ¬ HasPlace ls (k + 1) k → (e : TraceLine) → e ≡ get_or ls k e
     → q ≡ after_call p e → IsReached ls (k + 1) q
@@ -151,11 +152,11 @@ reached_next ls k p q lt rises so_far (f, at, its) single e is made =
     let one = only_here ls k p lt rises so_far e is mine single in
     let state : (after_call p e).state ≡ after (shape_of p) (calls_below ls (k + 1)) = ap (λ (s : State). (TStep (shape_of p) s e.call).state) so_far.state ∙ sym (after_one (shape_of p) ls k e one) in
     subst (λ (r : PlainTable). IsReached ls (k + 1) r) (sym made) (record {
-        calls = ap (λ (n : ℕ). n + 1) so_far.calls;
-        state = state;
-        front = λ i d below. front_next ls k e so_far.front is mine i d below lt;
-        back = λ i d le within. behind ls k p lt rises so_far single i d le within;
-        rest = λ q le. so_far.rest q (omega (arith, le)) ∙ ap (λ (xs : List TraceLine). lines_at xs q) (split_at ls k e lt is) ∙ miss e (drop (k + 1) ls) q (λ same. omega (arith, le, same, mine));
+      calls = ap (λ (n : ℕ). n + 1) so_far.calls;
+      state = state;
+      front = λ i d below. front_next ls k e so_far.front is mine i d below lt;
+      back = λ i d le within. behind ls k p lt rises so_far single i d le within;
+      rest = λ q le. so_far.rest q (omega (arith, le)) ∙ ap (λ (xs : List TraceLine). lines_at xs q) (split_at ls k e lt is) ∙ miss e (drop (k + 1) ls) q (λ same. omega (arith, le, same, mine));
     })
 
 -- ---- at the start and at the end
@@ -163,12 +164,12 @@ reached_next ls k p q lt rises so_far (f, at, its) single e is made =
 pub reached_none : (ls : List TraceLine) (p : PlainTable) → p.calls ≡ 0 → p.state ≡ map_of.empty → IsReached ls 0 p
 unfolding calls_below left_by
 reached_none ls p calls state = record {
-    calls = calls;
-    state = state;
-    front = λ i d below. absurd (omega (arith, below));
-    back = λ i d le within. omega arith;
-    rest = λ q le. refl;
-  }
+  calls = calls;
+  state = state;
+  front = λ i d below. absurd (omega (arith, below));
+  back = λ i d le within. omega arith;
+  rest = λ q le. refl;
+}
 
 nothing_wrong : (t : Shape) (ls : List TraceLine) (q : ℕ) → lines_at ls q ≡ [] → ((e : TraceLine) → Contains ls e → e.at ≤ q) → ¬ IsWrong t ls q
 nothing_wrong t ls q none lower (inl missing) = let le = lower missing.1 missing.2 in omega (arith, le, missing.3)
@@ -191,5 +192,8 @@ pub wrong_same : (t : Shape) (xs ys : List TraceLine) (q : ℕ) → ((at : ℕ) 
 wrong_same t xs ys q same moved (inl missing) = inl (sym (same q) ∙ missing.0, (missing.1, Contains-permutation xs ys missing.1 moved missing.2, missing.3))
 wrong_same t xs ys q same moved (inr (inl doubled)) = inr (inl (rw (same q) at doubled))
 wrong_same t xs ys q same moved (inr (inr other)) =
-    inr (inr (other.0, subst (λ (l : List TraceLine). Contains l other.0) (same q) other.1,
-        subst (λ (es : List Entry). ¬ Tells other.0 (TStep t (after t es) other.0.call)) (below_same xs ys q same) other.2))
+    inr (inr (
+      other.0,
+      subst (λ (l : List TraceLine). Contains l other.0) (same q) other.1,
+      subst (λ (es : List Entry). ¬ Tells other.0 (TStep t (after t es) other.0.call)) (below_same xs ys q same) other.2,
+    ))

@@ -8,6 +8,7 @@ use Rattle.sw_data.specs.declared.table.Reply.TheVariants as replies
 use Rattle.sw_tmodel.specs.Table.{after}
 use Rattle.sw_tmodel.specs.Plain.{PlainTable, shape_of}
 use Rattle.sw_audit.specs.Verdicts.{lines_at, calls_below}
+use Rattle.sw_call.specs.declared.answer.Replied.{Replied}
 use Rattle.sw_audit.specs.declared.trace.TraceLine.{TraceLine}
 
 -- the least number with a property, if there is one
@@ -25,6 +26,15 @@ lesser (Some a) (Some b) = if nat_lt b a then Some b else Some a
 abbrev pub is_below : ℕ → Option ℕ → Bool
 is_below at None = false
 is_below at (Some seen) = nat_lt at seen
+
+-- the least late place, with one that is late or isn't
+abbrev pub with_late : Bool → ℕ → Option ℕ → Option ℕ
+with_late true at least = lesser least (Some at)
+with_late false at least = least
+
+-- the greatest place of a caller, after a line that is late or isn't, and is this caller's or isn't
+abbrev pub kept_or_new : Bool → Bool → Option ℕ → ℕ → Option ℕ
+kept_or_new late same seen at = if late then seen else if same then Some at else seen
 
 -- the greatest place that a caller has among the first n lines
 abbrev pub IsGreatest : List TraceLine → ℕ → ℕ → Option ℕ → Type 0
@@ -53,6 +63,10 @@ shown_by replies.No row = []
 shown_by (replies.Value n) row = []
 shown_by replies.Range row = []
 shown_by (replies.Count n) row = []
+
+-- this reply, with what it shows
+abbrev pub HasReply : Replied → Reply → List Value → Type 0
+HasReply r reply row = (r.reply ≡ reply) × (r.cells ≡ shown_by reply row)
 
 -- a line stands at the index, and has the place
 abbrev pub HasPlace : List TraceLine → ℕ → ℕ → Type 0

@@ -6,12 +6,13 @@ ghost use Rattle.sw_column.specs.Fit.{call_fault};
 ghost use Rattle.sw_column.specs.Values.{HasKinds};
 ghost use Rattle.sw_tmodel.specs.Plain.{shape_of};
 ghost use Rattle.sw_tmodel.specs.Table.{TStep};
-ghost use Rattle.sw_audit.specs.Judging.{is_same, shown_by};
+ghost use Rattle.sw_audit.specs.Judging.{is_same, shown_by, HasReply};
 ghost use Rattle.sw_audit.specs.Verdicts.{Tells};
 
 use crate::trace::TraceLine;
+use sw_call::Replied;
 use sw_column::{Cell, RowBuf};
-use sw_data::{Cells, Octets, Reply, Value};
+use sw_data::{Cells, Reply, Value};
 use sw_tmodel::Plain;
 
 fn is_number(n: i64, value: &Value) -> bool
@@ -66,6 +67,16 @@ fn shows(reply: Reply, row: &RowBuf, cells: &Cells) -> bool
     }
 }
 
+/// Whether this is the reply, and these are the values that it shows.
+fn tells(replied: &Replied, reply: Reply, row: &RowBuf) -> bool
+    ensures { MatchBool result (HasReply replied.now reply row.now) (¬ HasReply replied.now reply row.now) }
+{
+    if replied.reply != reply {
+        return false;
+    }
+    shows(reply, row, &replied.cells)
+}
+
 /// Makes the line's call, and answers whether the line tells its reply and its row.
 pub fn is_told(line: &TraceLine, plain: &mut Plain, row: &mut RowBuf) -> bool
     requires fit { call_fault plain.old.columns line.now.call ≡ None }
@@ -77,7 +88,6 @@ pub fn is_told(line: &TraceLine, plain: &mut Plain, row: &mut RowBuf) -> bool
 {
     match plain.call(&line.call, row) {
         Err(_) => unreachable!(),
-        Ok(placed) => placed.reply == line.replied.reply
-            && shows(placed.reply, row, &line.replied.cells),
+        Ok(placed) => tells(&line.replied, placed.reply, row),
     }
 }

@@ -1,9 +1,9 @@
 // Whether a caller's places rise, in the order in which its lines were written.
 
-ghost use Rattle.std.specs.Prelude.{◌≡◌, ℕ, Some, None, IfOk, nat_eq, if◌then◌else◌};
+ghost use Rattle.std.specs.Prelude.{◌≡◌, ℕ, Some, None, IfOk, nat_eq};
 ghost use Rattle.std.specs.HashMap.{get};
 ghost use Rattle.sw_audit.specs.Verdicts.{IsLate};
-ghost use Rattle.sw_audit.specs.Judging.{IsLeast, lesser, is_below};
+ghost use Rattle.sw_audit.specs.Judging.{IsLeast, lesser, is_below, with_late, kept_or_new};
 
 use crate::trace::TraceLine;
 use std::alloc::Global;
@@ -32,16 +32,21 @@ fn is_below(at: u64, seen: Option<u64>) -> bool
     }
 }
 
-/// Whether the caller was seen with a greater place. Where it wasn't, this place is its greatest from now on.
-fn is_late(greatest: &mut HashMap<u64, u64>, caller: u64, at: u64) -> Result<bool, OutOfMemory>
-    ensures late { IfOk result (λ late. late ≡ is_below at (get nat_eq greatest.old caller)) }
-    ensures kept { IfOk result (λ late. (c : ℕ) → get nat_eq greatest.new c ≡ (if late then get nat_eq greatest.old c else if nat_eq caller c then Some at else get nat_eq greatest.old c)) }
+/// The least late place, with this line too: it is late where its caller was seen with a greater place. Where it isn't, its place
+/// is the caller's greatest from now on.
+fn with_line(
+    greatest: &mut HashMap<u64, u64>,
+    line: &TraceLine,
+    late: Option<u64>,
+) -> Result<Option<u64>, OutOfMemory>
+    ensures late { IfOk result (λ r. r ≡ with_late (is_below line.now.at (get nat_eq greatest.old line.now.caller)) line.now.at late) }
+    ensures greatest { IfOk result (λ _. (c : ℕ) → get nat_eq greatest.new c ≡ kept_or_new (is_below line.now.at (get nat_eq greatest.old line.now.caller)) (nat_eq line.now.caller c) (get nat_eq greatest.old c) line.now.at) }
 {
-    if is_below(at, greatest.get(&caller).copied()) {
-        return Ok(true);
+    if is_below(line.at, greatest.get(&line.caller).copied()) {
+        return Ok(lesser(late, Some(line.at)));
     }
-    greatest.insert(caller, at)?;
-    Ok(false)
+    greatest.insert(line.caller, line.at)?;
+    Ok(late)
 }
 
 /// The least place that stands behind a greater one of the same caller, if there is one.
@@ -51,9 +56,7 @@ pub fn first_late(alloc: Global, lines: &[TraceLine]) -> Result<Option<u64>, Out
     let mut greatest = HashMap::new(alloc);
     let mut late = None;
     for line in lines {
-        if is_late(&mut greatest, line.caller, line.at)? {
-            late = lesser(late, Some(line.at));
-        }
+        late = with_line(&mut greatest, line, late)?;
     }
     Ok(late)
 }

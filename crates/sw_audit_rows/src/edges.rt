@@ -21,7 +21,10 @@ fn first_lines(rt: HostRuntime) {
         ("table 64 0 f:float:8\n", Err(AuditFault::BadLine(1))),
         ("table 64 0 s:string:1022\n", Ok(Verdict::Ok(0))),
         ("table 64 0 s:string:1023\n", Err(AuditFault::BadLine(1))),
-        ("table 64 0 s:string:1022,n:int:1\n", Err(AuditFault::BadLine(1))),
+        (
+            "table 64 0 s:string:1022,n:int:1\n",
+            Err(AuditFault::BadLine(1)),
+        ),
         ("table 64 0 n:int:8\n\n", Err(AuditFault::BadLine(2))),
     ];
     audits(&rt, rt.alloc(), &rows);
@@ -43,11 +46,26 @@ fn numbers(rt: HostRuntime) {
 ",
             Ok(Verdict::Ok(8)),
         ),
-        ("table 64 0 b:int:2\n0 0 set 6b b=32768 > stored\n", Err(AuditFault::BadLine(2))),
-        ("table 64 0 c:int:4\n0 0 set 6b c=-2147483649 > stored\n", Err(AuditFault::BadLine(2))),
-        ("table 64 0 d:int:8\n0 0 set 6b d=9223372036854775808 > stored\n", Err(AuditFault::BadLine(2))),
-        ("table 64 0 n:int:8\n0 0 set 6b n=-0 > stored\n", Err(AuditFault::BadLine(2))),
-        ("table 64 0 n:int:8\n0 0 incr 6b n 0 > value -0\n", Err(AuditFault::BadLine(2))),
+        (
+            "table 64 0 b:int:2\n0 0 set 6b b=32768 > stored\n",
+            Err(AuditFault::BadLine(2)),
+        ),
+        (
+            "table 64 0 c:int:4\n0 0 set 6b c=-2147483649 > stored\n",
+            Err(AuditFault::BadLine(2)),
+        ),
+        (
+            "table 64 0 d:int:8\n0 0 set 6b d=9223372036854775808 > stored\n",
+            Err(AuditFault::BadLine(2)),
+        ),
+        (
+            "table 64 0 n:int:8\n0 0 set 6b n=-0 > stored\n",
+            Err(AuditFault::BadLine(2)),
+        ),
+        (
+            "table 64 0 n:int:8\n0 0 incr 6b n 0 > value -0\n",
+            Err(AuditFault::BadLine(2)),
+        ),
     ];
     audits(&rt, rt.alloc(), &rows);
 }
@@ -55,7 +73,10 @@ fn numbers(rt: HostRuntime) {
 #[test]
 fn places(rt: HostRuntime) {
     let rows = [
-        ("table 64 0 -\n18446744073709551615 0 count > count 0\n", Ok(Verdict::No(0))),
+        (
+            "table 64 0 -\n18446744073709551615 0 count > count 0\n",
+            Ok(Verdict::No(0)),
+        ),
         (
             "table 64 0 -
 0 18446744073709551615 count > count 0
@@ -64,11 +85,26 @@ fn places(rt: HostRuntime) {
 ",
             Ok(Verdict::No(1)),
         ),
-        ("table 64 0 -\n18446744073709551616 0 count > count 0\n", Err(AuditFault::BadLine(2))),
-        ("table 64 0 -\n0 0 count > count 0 \n", Err(AuditFault::BadLine(2))),
-        ("table 64 0 -\n0 0 count >count 0\n", Err(AuditFault::BadLine(2))),
-        ("table 64 0 -\n0 0 count> count 0\n", Err(AuditFault::BadLine(2))),
-        ("table 64 0 -\n0 0 set 6b > stored\n1 0 get 6b > row\n", Ok(Verdict::Ok(2))),
+        (
+            "table 64 0 -\n18446744073709551616 0 count > count 0\n",
+            Err(AuditFault::BadLine(2)),
+        ),
+        (
+            "table 64 0 -\n0 0 count > count 0 \n",
+            Err(AuditFault::BadLine(2)),
+        ),
+        (
+            "table 64 0 -\n0 0 count >count 0\n",
+            Err(AuditFault::BadLine(2)),
+        ),
+        (
+            "table 64 0 -\n0 0 count> count 0\n",
+            Err(AuditFault::BadLine(2)),
+        ),
+        (
+            "table 64 0 -\n0 0 set 6b > stored\n1 0 get 6b > row\n",
+            Ok(Verdict::Ok(2)),
+        ),
     ];
     audits(&rt, rt.alloc(), &rows);
 }
@@ -88,7 +124,10 @@ fn long_keys(rt: HostRuntime) -> Result<(), Fail> {
     let longest = set_of(rt.alloc(), 63)?;
     assert_eq!(rt; audit(rt.alloc(), longest.as_bytes()), Ok(Verdict::Ok(1)));
     let longer = set_of(rt.alloc(), 64)?;
-    assert_eq!(rt; audit(rt.alloc(), longer.as_bytes()), Err(AuditFault::BadLine(2)));
+    assert_eq!(rt;
+        audit(rt.alloc(), longer.as_bytes()),
+        Err(AuditFault::BadLine(2))
+    );
     Ok(())
 }
 
@@ -106,6 +145,9 @@ fn many_columns(rt: HostRuntime) -> Result<(), Fail> {
     let most = with_columns(rt.alloc(), 32)?;
     assert_eq!(rt; audit(rt.alloc(), most.as_bytes()), Ok(Verdict::Ok(0)));
     let more = with_columns(rt.alloc(), 33)?;
-    assert_eq!(rt; audit(rt.alloc(), more.as_bytes()), Err(AuditFault::BadLine(1)));
+    assert_eq!(rt;
+        audit(rt.alloc(), more.as_bytes()),
+        Err(AuditFault::BadLine(1))
+    );
     Ok(())
 }

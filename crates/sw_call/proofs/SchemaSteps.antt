@@ -1,8 +1,9 @@
-use Rattle.std.proofs.Common.{◌≡◌, ℕ, ◌+◌, ◌<◌, ◌≤◌, List, [], ◌∷◌, ◌++◌, length, get_or, drop, Option, Some, None, Result, Ok, Err, sym, ◌∙◌}
+use Rattle.std.proofs.Common.{◌≡◌, ℕ, ◌+◌, ◌<◌, ◌≤◌, List, [], ◌∷◌, ◌++◌, length, get_or, drop, Option, Some, None, Result, Ok, Err, ap, sym, ◌∙◌}
 use Rattle.std.proofs.lemmas.List.{at_drop_more, drop_all}
 use Rattle.sw_column.specs.declared.column.Column.{Column}
 use Rattle.sw_column.specs.declared.column.ColumnFault.{ColumnFault}
-use Rattle.sw_column.specs.Columns.{column_fault}
+use Rattle.sw_column.specs.Columns.{column_fault, IsRefusal}
+use Rattle.sw_column.specs.declared.column.ColumnFault.TheVariants.{OutOfMemory}
 use Rattle.sw_call.specs.declared.column_texts.Refused.{Refused}
 use Rattle.sw_call.specs.Columns.{joined, schema_with}
 
@@ -32,3 +33,7 @@ column_refused s cs i c fault total lt is some so_far =
 pub columns_done : (s cs : List Column) (i : ℕ) (total : Result (List Column) Refused) → length cs ≤ i → schema_with (Ok s) (drop i cs) ≡ total → Ok s ≡ total
 unfolding schema_with
 columns_done s cs i total le so_far = rw (drop_all i cs le) at so_far
+
+pub refused_by : (o : Option ColumnFault) (fault : ColumnFault) → IsRefusal o fault → ¬ (fault ≡ OutOfMemory) → o ≡ Some fault
+refused_by None fault is other = absurd (other is)
+refused_by (Some f) fault is other = ap Some (sym is)

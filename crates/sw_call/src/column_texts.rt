@@ -92,6 +92,20 @@ pub fn columns(alloc: Global, text: &[u8]) -> Result<Option<Columns>, OutOfMemor
     }
 }
 
+/// The column and its fault, unless memory ran out.
+fn refusal(name: &Name, fault: ColumnFault) -> Result<Refused, OutOfMemory>
+    ensures value { IfOk result (λ r. r ≡ record { name = name.now; fault = fault }) }
+    ensures other { IfOk result (λ _. ¬ (fault ≡ ColumnFault.OutOfMemory)) }
+{
+    match fault {
+        ColumnFault::OutOfMemory => Err(OutOfMemory),
+        _ => Ok(Refused {
+            name: name.copy()?,
+            fault,
+        }),
+    }
+}
+
 /// The schema of these columns, in their order, or the first of them that it refuses.
 pub fn schema(alloc: Global, columns: &Columns) -> Result<Result<Schema, Refused>, OutOfMemory>
     ensures { IfOk result (λ s. s ≡ schema_of columns.now) }
@@ -100,10 +114,9 @@ pub fn schema(alloc: Global, columns: &Columns) -> Result<Result<Schema, Refused
     for c in columns.as_slice() {
         match schema.column(c.name.bytes(), c.kind, c.size) {
             Ok(()) => (),
-            Err(ColumnFault::OutOfMemory) => return Err(OutOfMemory),
             Err(fault) => {
-                let name = c.name.copy()?;
-                return Ok(Err(Refused { name, fault }));
+                let refused = refusal(&c.name, fault)?;
+                return Ok(Err(refused));
             }
         }
     }
