@@ -57,10 +57,10 @@ by_caller : (ls : List TraceLine) (n : ℕ) (e : TraceLine) (late same : Bool) (
     → (e.caller ≡ c → own ≡ o) → IsGreatest ls n c o → IsGreatest ls (n + 1) c (kept_or_new late same o e.at)
 by_caller ls n e late true c own o here is eq agree was =
     let callers = eqb-true e.caller c eq in
-    let below : is_below e.at o ≡ late = rw (agree callers) at is in
-    let mine : IsGreatest ls n e.caller o = rw (← callers) at was in
+    let below : is_below e.at o ≡ late = subst (λ (x : Option ℕ). is_below e.at x ≡ late) (agree callers) is in
+    let mine : IsGreatest ls n e.caller o = subst (λ (x : ℕ). IsGreatest ls n x o) (sym callers) was in
     let more = same_caller ls n e late o here below mine in
-    rw callers at more
+    subst (λ (x : ℕ). IsGreatest ls (n + 1) x (kept_or_new late true o e.at)) callers more
 by_caller ls n e late false c own o here is eq agree was = other_caller ls n e late c o here (eqb-false e.caller c eq) was
 
 -- the greatest places after one line more

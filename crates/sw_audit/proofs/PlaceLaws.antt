@@ -1,4 +1,4 @@
-use Rattle.std.proofs.Common.{◌≡◌, ℕ, zero, suc, ◌+◌, ◌<◌, ◌≤◌, Bool, true, false, cond, eqb, List, [], ◌∷◌, ◌++◌, length, get_or, drop, map, Option, Some, None, refl, ap, sym, ◌∙◌, subst, inl, inr, ⊎_elim, arith, add-one, length-drop, eq-eqb, lit<, MatchBool}
+use Rattle.std.proofs.Common.{◌≡◌, ℕ, zero, suc, ◌+◌, ◌<◌, ◌≤◌, Bool, true, false, cond, eqb, List, [], ◌∷◌, ◌++◌, length, get_or, drop, map, Option, Some, None, refl, ap, sym, ◌∙◌, subst, inl, inr, ⊎_elim, arith, add-one, length-drop, eq-eqb, MatchBool}
 use Rattle.std.specs.Prelude.{slice_get, filter, Contains, All, nat_eq, ◌⊎◌}
 use Rattle.std.specs.List.{AllByRecursion}
 use Rattle.std.specs.List.Sorted.{IsNonDecreasingBy, IsPermutation}
@@ -69,7 +69,7 @@ missing_here : (ls : List TraceLine) (k : ℕ) (p : PlainTable) → k < length l
 missing_here ls k p lt rises so_far e is other =
     let least = so_far.back k e (omega arith) lt in
     let here : k ≤ e.at = rw (← is) at least in (
-      so_far.rest k (omega arith) ∙ none_from ls k k (λ i d le within same. let up = rises k i d le within in let first : get_or ls k d ≡ e = get_or_default ls k d e lt ∙ sym is in let up2 : e.at ≤ (get_or ls i d).at = rw first at up in other (omega (arith, here, up2, same))),
+      so_far.rest k (omega arith) ∙ none_from ls k k (λ i d le within same. let up : (get_or ls k d).at ≤ (get_or ls i d).at = rises k i d le within in let first : (get_or ls k d).at ≡ e.at = ap place_of (get_or_default ls k d e lt ∙ sym is) in other (omega (arith, here, up, first, same))),
       (e, (k, lt, sym is), omega (arith, here, other)),
     )
 
@@ -80,38 +80,41 @@ doubled_here ls k p lt so_far e is mine (f, next, its) =
     let one : drop k ls ≡ e ∷ f ∷ drop (k + 1 + 1) ls = split_at ls k e lt is ∙ ap (λ (xs : List TraceLine). e ∷ xs) two in
     let all : lines_at ls k ≡ e ∷ f ∷ lines_at (drop (k + 1 + 1) ls) k =
     so_far.rest k (omega arith) ∙ ap (λ (xs : List TraceLine). lines_at xs k) one ∙ hit e (f ∷ drop (k + 1 + 1) ls) k mine ∙ ap (λ (xs : List TraceLine). e ∷ xs) (hit f (drop (k + 1 + 1) ls) k its) in
-    rw all (omega arith)
+    subst (λ (xs : List TraceLine). 1 < length xs) (sym all) (omega arith)
 
 -- behind a place that only one line has, all places are greater
 behind : (ls : List TraceLine) (k : ℕ) (p : PlainTable) → k < length ls → Rises ls → IsReached ls k p → ¬ HasPlace ls (k + 1) k → (i : ℕ) (d : TraceLine) → k + 1 ≤ i → i < length ls → k + 1 ≤ (get_or ls i d).at
 behind ls k p lt rises so_far single i d le within =
     let within2 : k + 1 < length ls = omega (arith, le, within) in
-    let up = rises (k + 1) i d le within in
-    let from = so_far.back (k + 1) d (omega arith) within2 in
+    let up : (get_or ls (k + 1) d).at ≤ (get_or ls i d).at = rises (k + 1) i d le within in
+    let from : k ≤ (get_or ls (k + 1) d).at = so_far.back (k + 1) d (omega arith) within2 in
     let other : ¬ ((get_or ls (k + 1) d).at ≡ k) = λ same. single (get_or ls (k + 1) d, slice_get-get_or ls (k + 1) d within2, same) in
     omega (arith, up, from, other)
 
 -- the one line at such a place
 only_here : (ls : List TraceLine) (k : ℕ) (p : PlainTable) → k < length ls → Rises ls → IsReached ls k p → (e : TraceLine) → e ≡ get_or ls k e → e.at ≡ k → ¬ HasPlace ls (k + 1) k → lines_at ls k ≡ e ∷ []
 only_here ls k p lt rises so_far e is mine single =
-    let none : lines_at (drop (k + 1) ls) k ≡ [] = none_from ls (k + 1) k (λ i d le within same. let up = behind ls k p lt rises so_far single i d le within in omega (arith, up, same)) in
+    let none : lines_at (drop (k + 1) ls) k ≡ [] = none_from ls (k + 1) k (λ i d le within same. let up : k + 1 ≤ (get_or ls i d).at = behind ls k p lt rises so_far single i d le within in omega (arith, up, same)) in
     so_far.rest k (omega arith) ∙ ap (λ (xs : List TraceLine). lines_at xs k) (split_at ls k e lt is) ∙ hit e (drop (k + 1) ls) k mine ∙ ap (λ (xs : List TraceLine). e ∷ xs) none
 
 -- ---- a place with one line is wrong exactly where the line tells another answer
 
+one_at : (e x : TraceLine) (k : ℕ) → k < length (e ∷ []) → get_or (e ∷ []) k x ≡ x → e ≡ x
+one_at e x zero lt is = is
+one_at e x (suc k) lt is = absurd (omega (arith, lt))
+
 one_of : (e x : TraceLine) → Contains (e ∷ []) x → e ≡ x
-one_of e x (zero, lt, is) = is
-one_of e x (suc i, lt, is) = absurd (omega (arith, lt))
+one_of e x has = one_at e x has.0 has.1 has.2
 
 not_wrong : (t : Shape) (ls : List TraceLine) (k : ℕ) (e : TraceLine) → lines_at ls k ≡ e ∷ [] → Tells e (TStep t (after t (calls_below ls k)) e.call) → ¬ IsWrong t ls k
 not_wrong t ls k e one tells (inl missing) = let none : e ∷ [] ≡ [] = sym one ∙ missing.0 in cc
-not_wrong t ls k e one tells (inr (inl doubled)) = let two : 1 < length (e ∷ []) = rw one at doubled in omega (arith, two)
+not_wrong t ls k e one tells (inr (inl doubled)) = let two : 1 < length (e ∷ []) = subst (λ (xs : List TraceLine). 1 < length xs) one doubled in omega (arith, two)
 not_wrong t ls k e one tells (inr (inr other)) =
-    let has : Contains (e ∷ []) other.0 = rw one at other.1 in
+    let has : Contains (e ∷ []) other.0 = subst (λ (xs : List TraceLine). Contains xs other.0) one other.1 in
     other.2 (subst (λ (x : TraceLine). Tells x (TStep t (after t (calls_below ls k)) x.call)) (one_of e other.0 has) tells)
 
 is_wrong : (t : Shape) (ls : List TraceLine) (k : ℕ) (e : TraceLine) → lines_at ls k ≡ e ∷ [] → ¬ Tells e (TStep t (after t (calls_below ls k)) e.call) → IsWrong t ls k
-is_wrong t ls k e one other = inr (inr (e, subst (λ (xs : List TraceLine). Contains xs e) (sym one) (0, lit< tt, refl), other))
+is_wrong t ls k e one other = inr (inr (e, subst (λ (xs : List TraceLine). Contains xs e) (sym one) (0, omega arith, refl), other))
 
 -- ---- from one place to the next
 
@@ -173,24 +176,24 @@ reached_none ls p calls state = record {
 
 nothing_wrong : (t : Shape) (ls : List TraceLine) (q : ℕ) → lines_at ls q ≡ [] → ((e : TraceLine) → Contains ls e → e.at ≤ q) → ¬ IsWrong t ls q
 nothing_wrong t ls q none lower (inl missing) = let le = lower missing.1 missing.2 in omega (arith, le, missing.3)
-nothing_wrong t ls q none lower (inr (inl doubled)) = let two : 1 < 0 = rw none at doubled in omega (arith, two)
-nothing_wrong t ls q none lower (inr (inr other)) = let has : Contains [] other.0 = rw none at other.1 in omega (arith, has.1)
+nothing_wrong t ls q none lower (inr (inl doubled)) = let two : 1 < length {A = TraceLine} [] = subst (λ (xs : List TraceLine). 1 < length xs) none doubled in omega (arith, two)
+nothing_wrong t ls q none lower (inr (inr other)) = let has : Contains [] other.0 = subst (λ (xs : List TraceLine). Contains xs other.0) none other.1 in omega (arith, has.1)
 
 pub none_wrong : (t : Shape) (ls : List TraceLine) (n q : ℕ) (p : PlainTable) → length ls ≤ n → n ≤ q → IsReached ls n p → ¬ IsWrong t ls q
 none_wrong t ls n q p le from so_far wrong =
     let none : lines_at ls q ≡ [] = so_far.rest q from ∙ ap (λ (xs : List TraceLine). lines_at xs q) (drop_all n ls le) in
-    nothing_wrong t ls q none (λ e has. let at : (get_or ls has.0 e).at < n = so_far.front has.0 e (omega (arith, has.1, le)) in let same : get_or ls has.0 e ≡ e = has.2 in let lower : e.at < n = rw same at at in omega (arith, lower, from)) wrong
+    nothing_wrong t ls q none (λ e has. let at : (get_or ls has.0 e).at < n = so_far.front has.0 e (omega (arith, has.1, le)) in let same : get_or ls has.0 e ≡ e = has.2 in let place : (get_or ls has.0 e).at ≡ e.at = ap place_of same in omega (arith, at, place, from)) wrong
 
 -- ---- the same lines in another order
 
 below_same : (xs ys : List TraceLine) (n : ℕ) → ((q : ℕ) → lines_at xs q ≡ lines_at ys q) → calls_below xs n ≡ calls_below ys n
 unfolding calls_below
 below_same xs ys zero same = refl
-below_same xs ys (suc n) same = let front = below_same xs ys n same in let here = same n in rw (front, here) refl
+below_same xs ys (suc n) same = let front = ap (λ (es : List Entry). es ++ map entry_of (lines_at xs n)) (below_same xs ys n same) in front ∙ ap (λ (l : List TraceLine). calls_below ys n ++ map entry_of l) (same n)
 
 pub wrong_same : (t : Shape) (xs ys : List TraceLine) (q : ℕ) → ((at : ℕ) → lines_at xs at ≡ lines_at ys at) → IsPermutation xs ys → IsWrong t xs q → IsWrong t ys q
 wrong_same t xs ys q same moved (inl missing) = inl (sym (same q) ∙ missing.0, (missing.1, Contains-permutation xs ys missing.1 moved missing.2, missing.3))
-wrong_same t xs ys q same moved (inr (inl doubled)) = inr (inl (rw (same q) at doubled))
+wrong_same t xs ys q same moved (inr (inl doubled)) = inr (inl (subst (λ (l : List TraceLine). 1 < length l) (same q) doubled))
 wrong_same t xs ys q same moved (inr (inr other)) =
     inr (inr (
       other.0,

@@ -1,5 +1,5 @@
-use Rattle.std.proofs.Common.{◌≡◌, ℕ, ◌<◌, Bool, true, false, List, [], ◌∷◌, length, Option, Some, None, refl, sym, ap, subst, ◌∙◌, arith, Decides, MatchBool}
-use Rattle.std.specs.Prelude.{ℤ, ◌+ℤ◌, ◌-ℤ◌, nat_eq, cond}
+use Rattle.std.proofs.Common.{◌≡◌, ℕ, ◌<◌, Bool, true, false, eqb, List, [], ◌∷◌, length, Option, Some, None, refl, sym, ap, subst, ◌∙◌, arith, Decides, MatchBool}
+use Rattle.std.specs.Prelude.{ℤ, ◌+ℤ◌, ◌-ℤ◌, cond}
 use Rattle.std.specs.Ordering.{int_eq}
 use Rattle.std.specs.Str.{bytes_eq}
 use Rattle.std.proofs.lemmas.Slice.Eq.{bytes_eq-Decides}
@@ -9,7 +9,8 @@ use Rattle.sw_data.specs.declared.table.Value.TheVariants.{Int, Text}
 use Rattle.sw_data.specs.declared.table.Call.{Call}
 use Rattle.sw_data.specs.declared.table.Call.TheVariants.{Set, Get, Exist, Del, Incr, Decr, Count}
 use Rattle.sw_data.specs.declared.table.CallFault.{CallFault}
-use Rattle.sw_column.specs.Fit.{call_fault, fits as fits_size}
+use Rattle.sw_data.specs.declared.table.CallFault.TheVariants.{Spent}
+use Rattle.sw_column.specs.Fit.{call_fault, or_else, fits}
 use Rattle.sw_tmodel.specs.Table.{Shape, State, Step, TStep, answers, set_step, get_step, del_step, add_step, add, may_write, row_of}
 use Rattle.sw_tmodel.specs.Rows.{with_value, with_pairs, number_of, size_of}
 use Rattle.std.specs.FinMap as map_of
@@ -54,7 +55,7 @@ exist_shown true s row = refl
 exist_shown false s row = refl
 
 added : (t : Shape) (s : State) (key name : List ℕ) (n : ℤ) (row : List Value) → IsShown (add t s key name n) row
-added t s key name n row = add_shown (fits_size (size_of t.columns name) n) (may_write t s key) s key (with_value t.columns (row_of t s key) name (values.Int n)) row n
+added t s key name n row = add_shown (fits (size_of t.columns name) n) (may_write t s key) s key (with_value t.columns (row_of t s key) name (values.Int n)) row n
 
 pub step_shown : (t : Shape) (s : State) (call : Call) (row : List Value) → IsShown (TStep t s call) row
 step_shown t s (Set key pairs) row = set_shown (may_write t s key) s key (with_pairs t.columns (row_of t s key) pairs) row
@@ -68,7 +69,8 @@ step_shown t s Count row = refl
 -- ---- a call that fits has a place, as long as places are left
 
 pub has_place : (p : PlainTable) (call : Call) (fault : CallFault) → call_fault p.columns call ≡ None → p.calls < p.last_call → plain_fault p call ≡ Some fault → ⊥
-has_place p call fault fits room is =
-    let other : nat_eq p.calls p.last_call ≡ false = ne_eqb p.calls p.last_call (omega (arith, room)) in
-    let none : None ≡ Some fault = rw (fits, other) at is in
+has_place p call fault fit room is =
+    let other : eqb p.calls p.last_call ≡ false = ne_eqb p.calls p.last_call (λ same. omega (arith, room, same)) in
+    let parts : or_else (call_fault p.columns call) (cond (eqb p.calls p.last_call) (Some (Spent p.calls)) None) ≡ Some fault = is in
+    let none : None ≡ Some fault = rw (fit, other) at parts in
     cc
