@@ -1,10 +1,10 @@
 use Rattle.std.specs.Prelude.{IfSome}
 use Rattle.std.proofs.lemmas.List.{append-nil}
-use Rattle.sw_text.specs.Then.{◌>>=◌}
+use Rattle.sw_column.specs.declared.column.Column.{Column}
 use Rattle.std.proofs.Common.{subst, ◌≡◌, ℕ, ◌+◌, List, [], ◌∷◌, ◌++◌, length, Option, Some, None, Result, Ok, Err, refl, ap, sym, ◌∙◌, inl, inr, arith, append_assoc}
 use Rattle.sw_text.specs.Parts.{lines_of}
-use Rattle.sw_audit.specs.Grammar.{head_of, line_of, with_line, line_read, lines_read, numbered, lines_trace, trace_of}
-use Rattle.sw_audit.specs.Reading.{AreRead, no_lines, IsHeadOut, IsLineOut, AreTrace, IsRead}
+use Rattle.sw_audit.specs.Grammar.{table_text, without_lines, head_of, line_of, with_line, line_read, lines_read, numbered, lines_trace, trace_of}
+use Rattle.sw_audit.specs.Reading.{AreRead, AreTrace, IsRead}
 use Rattle.sw_audit.specs.declared.trace.Trace.{Trace}
 use Rattle.sw_audit.specs.declared.trace.TraceLine.{TraceLine}
 
@@ -47,13 +47,9 @@ told_all (l ∷ ls) n t = one n t l ls (line_of t.schema l) refl (λ (u : Trace)
 abbrev NoLines : Trace → Type 0
 NoLines t = t.lines ≡ []
 
-all_of : {A B : Type 0} (P : B → Type 0) (o : Option A) (f : A → Option B) → ((x : A) → IfSome (f x) P) → IfSome (o >>= f) P
-all_of P None f h = tt
-all_of P (Some x) f h = h x
-
-head_empty : (line : List ℕ) → IfSome (head_of line) NoLines
-unfolding head_of
-head_empty line = all_of NoLines _ _ (λ rest. all_of NoLines _ _ (λ s. all_of NoLines _ _ (λ p. all_of NoLines _ _ (λ size. all_of NoLines _ _ (λ percent. all_of NoLines _ _ (λ schema. refl))))))
+no_lines_yet : (o : Option (ℕ × ℕ × List Column)) → IfSome (without_lines o) NoLines
+no_lines_yet None = tt
+no_lines_yet (Some t) = refl
 
 -- ---- the whole text
 
@@ -71,7 +67,7 @@ by_head head ls (Some t) is none = from_head head ls t (lines_read 2 (Ok t) ls) 
 
 by_lines : (ls : List (List ℕ)) → AreTrace ls (lines_trace ls)
 by_lines [] = inl (tt, refl)
-by_lines (l ∷ ls) = by_head l ls (head_of l) refl (head_empty l)
+by_lines (l ∷ ls) = by_head l ls (head_of l) refl (no_lines_yet (table_text l))
 
 pub is_read : (text : List ℕ) → IsRead text (trace_of text)
 is_read text = by_lines (lines_of text)

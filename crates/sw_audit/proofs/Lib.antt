@@ -5,3 +5,4 @@ pub mod LateSteps
 pub mod PlaceLaws
 pub mod LeastLaws
 pub mod SortLaws
+pub mod VerdictLaws

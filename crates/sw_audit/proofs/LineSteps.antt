@@ -1,5 +1,6 @@
-use Rattle.std.proofs.Common.{◌≡◌, ℕ, ◌+◌, List, [], ◌∷◌, Some, None, Result, Ok, Err, refl}
-use Rattle.sw_audit.specs.Grammar.{line_read, lines_read, numbered}
+use Rattle.std.proofs.Common.{◌≡◌, ℕ, ◌+◌, List, [], ◌∷◌, Some, None, Option, Result, Ok, Err, refl, sym, ap, ◌∙◌}
+use Rattle.sw_text.specs.Parts.{lines_of}
+use Rattle.sw_audit.specs.Grammar.{head_of, line_read, lines_read, lines_trace, numbered, trace_of}
 use Rattle.sw_audit.specs.declared.trace.Trace.{Trace}
 
 pub lines_next : (n : ℕ) (d e : Trace) (l : List ℕ) (text ls : List (List ℕ)) (total : Result Trace ℕ) → line_read d l ≡ Some e → text ≡ l ∷ ls → lines_read n (Ok d) text ≡ total → lines_read (n + 1) (Ok e) ls ≡ total
@@ -17,3 +18,6 @@ lines_done n d text total is so_far = rw is at so_far
 pub head_bad : (n : ℕ) (ls : List (List ℕ)) → lines_read n (Err 1) ls ≡ Err 1
 unfolding lines_read
 head_bad n ls = refl
+
+pub head_out : (l : List ℕ) (ls : List (List ℕ)) (text : List ℕ) → head_of l ≡ None → lines_of text ≡ l ∷ ls → Err 1 ≡ trace_of text
+head_out l ls text none cut = sym (ap lines_trace cut ∙ ap (λ (o : Option Trace). lines_read 2 (numbered 1 o) ls) none ∙ head_bad 2 ls)

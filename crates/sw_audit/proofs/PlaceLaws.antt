@@ -1,6 +1,8 @@
 use Rattle.std.proofs.Common.{◌≡◌, ℕ, zero, suc, ◌+◌, ◌<◌, ◌≤◌, Bool, true, false, cond, eqb, List, [], ◌∷◌, ◌++◌, length, get_or, drop, map, Option, Some, None, refl, ap, sym, ◌∙◌, subst, inl, inr, ⊎_elim, arith, add-one, length-drop, eq-eqb, MatchBool}
 use Rattle.std.specs.Prelude.{slice_get, filter, Contains, All, nat_eq, ◌⊎◌}
+use Rattle.std.specs.Bool.{OnTrue}
 use Rattle.std.specs.List.{AllByRecursion}
+use Rattle.sw_column.specs.declared.column.Column.{Column}
 use Rattle.std.specs.List.Sorted.{IsNonDecreasingBy, IsPermutation}
 use Rattle.std.specs.FinMap as map_of
 use Rattle.std.proofs.lemmas.Bool.{eqb-true, eqb-false, ne_eqb, cases_lt}
@@ -9,7 +11,7 @@ use Rattle.std.proofs.lemmas.List.Elements.{recursion_from_All}
 use Rattle.std.proofs.lemmas.List.Sorted.{Contains-permutation}
 use Rattle.std.proofs.lemmas.Option.{slice_get-get_or, slice_get_past, slice_get_cases}
 use Rattle.sw_tmodel.specs.Table.{Shape, State, Step, Entry, TStep, left_by, after}
-use Rattle.sw_tmodel.specs.Plain.{PlainTable, shape_of}
+use Rattle.sw_tmodel.specs.Plain.{PlainTable, shape_of, pool_of}
 use Rattle.sw_audit.specs.Verdicts.{entry_of, lines_at, calls_below, IsMissing, IsDoubled, IsOther, IsWrong, Tells}
 use Rattle.sw_audit.specs.Judging.{HasPlace, IsReached, IsSameTable}
 use Rattle.sw_audit.specs.declared.trace.TraceLine.{TraceLine}
@@ -145,7 +147,7 @@ told ls k p false lt rises so_far (f, at, its) single e is tells =
 front_next : (ls : List TraceLine) (k : ℕ) (e : TraceLine) → ((i : ℕ) (d : TraceLine) → i < k → (get_or ls i d).at < k) → e ≡ get_or ls k e → e.at ≡ k → (i : ℕ) (d : TraceLine) → i < k + 1 → k < length ls → (get_or ls i d).at < k + 1
 front_next ls k e front is mine i d below lt =
     ⊎_elim (λ lower. let at = front i d lower in omega (arith, at))
-    (λ le. let same : i ≡ k = omega (arith, le, below) in let place : (get_or ls k d).at ≡ k = ap place_of (get_or_default ls k d e lt ∙ sym is) ∙ mine in rw same (omega (arith, place)))
+    (λ (le : k ≤ i). let same : i ≡ k = omega (arith, le, below) in let place : (get_or ls k d).at ≡ k = ap place_of (get_or_default ls k d e lt ∙ sym is) ∙ mine in rw same (omega (arith, place)))
     (cases_lt i k)
 
 pub reached_next : (ls : List TraceLine) (k : ℕ) (p q : PlainTable) → k < length ls → Rises ls → IsReached ls k p → HasPlace ls k k → ¬ HasPlace ls (k + 1) k → (e : TraceLine) → e ≡ get_or ls k e
@@ -175,7 +177,7 @@ reached_none ls p calls state = record {
 }
 
 nothing_wrong : (t : Shape) (ls : List TraceLine) (q : ℕ) → lines_at ls q ≡ [] → ((e : TraceLine) → Contains ls e → e.at ≤ q) → ¬ IsWrong t ls q
-nothing_wrong t ls q none lower (inl missing) = let le = lower missing.1 missing.2 in omega (arith, le, missing.3)
+nothing_wrong t ls q none lower (inl missing) = let le = lower missing.1.0 missing.1.1 in omega (arith, le, missing.1.2)
 nothing_wrong t ls q none lower (inr (inl doubled)) = let two : 1 < length {A = TraceLine} [] = subst (λ (xs : List TraceLine). 1 < length xs) none doubled in omega (arith, two)
 nothing_wrong t ls q none lower (inr (inr other)) = let has : Contains [] other.0 = subst (λ (xs : List TraceLine). Contains xs other.0) none other.1 in omega (arith, has.1)
 
@@ -192,7 +194,7 @@ below_same xs ys zero same = refl
 below_same xs ys (suc n) same = let front = ap (λ (es : List Entry). es ++ map entry_of (lines_at xs n)) (below_same xs ys n same) in front ∙ ap (λ (l : List TraceLine). calls_below ys n ++ map entry_of l) (same n)
 
 pub wrong_same : (t : Shape) (xs ys : List TraceLine) (q : ℕ) → ((at : ℕ) → lines_at xs at ≡ lines_at ys at) → IsPermutation xs ys → IsWrong t xs q → IsWrong t ys q
-wrong_same t xs ys q same moved (inl missing) = inl (sym (same q) ∙ missing.0, (missing.1, Contains-permutation xs ys missing.1 moved missing.2, missing.3))
+wrong_same t xs ys q same moved (inl missing) = inl (sym (same q) ∙ missing.0, (missing.1.0, Contains-permutation xs ys missing.1.0 moved missing.1.1, missing.1.2))
 wrong_same t xs ys q same moved (inr (inl doubled)) = inr (inl (subst (λ (l : List TraceLine). 1 < length l) (same q) doubled))
 wrong_same t xs ys q same moved (inr (inr other)) =
     inr (inr (
@@ -200,3 +202,26 @@ wrong_same t xs ys q same moved (inr (inr other)) =
       subst (λ (l : List TraceLine). Contains l other.0) (same q) other.1,
       subst (λ (es : List Entry). ¬ Tells other.0 (TStep t (after t es) other.0.call)) (below_same xs ys q same) other.2,
     ))
+
+-- ---- what a place that was found right adds
+
+pub right_next : (t : Shape) (ls : List TraceLine) (k : ℕ) → ((q : ℕ) → q < k → ¬ IsWrong t ls q) → ¬ IsWrong t ls k → (q : ℕ) → q < k + 1 → ¬ IsWrong t ls q
+right_next t ls k below here q lt =
+    ⊎_elim (λ (lower : q < k). below q lower) (λ (le : k ≤ q). let same : k ≡ q = omega (arith, le, lt) in subst (λ (x : ℕ). ¬ IsWrong t ls x) same here) (cases_lt q k)
+
+pub all_right : (t : Shape) (ls : List TraceLine) (n : ℕ) (p : PlainTable) → length ls ≤ n → IsReached ls n p → ((q : ℕ) → q < n → ¬ IsWrong t ls q) → (q : ℕ) → ¬ IsWrong t ls q
+all_right t ls n p le so_far below q =
+    ⊎_elim (λ (lower : q < n). below q lower) (λ (from : n ≤ q). none_wrong t ls n q p le from so_far) (cases_lt q n)
+
+abbrev shape : List Column → ℕ → ℕ → Shape
+shape cs size percent = record { columns = cs; size = size; pool = pool_of size percent }
+
+pub same_shape : (p q : PlainTable) → IsSameTable p q → shape_of q ≡ shape_of p
+same_shape p q same =
+    ap (λ (cs : List Column). shape cs q.size q.percent) same.0
+    ∙ ap (λ (n : ℕ). shape p.columns n q.percent) same.1
+    ∙ ap (λ (n : ℕ). shape p.columns p.size n) same.2
+
+pub on_true : (t : Bool) (P : Type 0) → P → OnTrue t P
+on_true true P p = p
+on_true false P p = tt

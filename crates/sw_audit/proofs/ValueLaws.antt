@@ -1,5 +1,7 @@
-use Rattle.std.proofs.Common.{◌≡◌, ℕ, ◌<◌, Bool, true, false, eqb, List, [], ◌∷◌, length, Option, Some, None, refl, sym, ap, subst, ◌∙◌, arith, Decides, MatchBool}
-use Rattle.std.specs.Prelude.{ℤ, ◌+ℤ◌, ◌-ℤ◌, cond}
+use Rattle.std.proofs.Common.{◌≡◌, ℕ, ◌<◌, ◌≤◌, get_or, Bool, true, false, eqb, List, [], ◌∷◌, length, Option, Some, None, refl, sym, ap, subst, ◌∙◌, arith, Decides, MatchBool}
+use Rattle.std.specs.Prelude.{ℤ, ◌+ℤ◌, ◌-ℤ◌, cond, slice_get}
+use Rattle.std.proofs.lemmas.List.{same_lists}
+use Rattle.std.proofs.lemmas.Option.{slice_get-get_or}
 use Rattle.std.specs.Ordering.{int_eq}
 use Rattle.std.specs.Str.{bytes_eq}
 use Rattle.std.proofs.lemmas.Slice.Eq.{bytes_eq-Decides}
@@ -18,7 +20,10 @@ use Rattle.sw_data.specs.declared.table.Reply.TheVariants.{Yes, No}
 use Rattle.sw_data.specs.declared.table.Value.TheVariants as values
 use Rattle.std.proofs.lemmas.Bool.{ne_eqb}
 use Rattle.sw_tmodel.specs.Plain.{PlainTable, plain_fault, shown}
-use Rattle.sw_audit.specs.Judging.{is_same, shown_by}
+use Rattle.sw_audit.specs.Judging.{is_same, shown_by, HasReply}
+use Rattle.sw_audit.specs.Verdicts.{Tells}
+use Rattle.sw_audit.specs.declared.trace.TraceLine.{TraceLine}
+use Rattle.sw_data.specs.declared.table.Reply.{Reply}
 
 -- ---- equal values
 
@@ -27,6 +32,14 @@ same_value (Int m) (Int n) = let d = Decides-int_eq m n in (λ e. ap Int (d.0 e)
 same_value (Int m) (Text t) = (λ e. absurd cc, λ e. absurd cc)
 same_value (Text t) (Int n) = (λ e. absurd cc, λ e. absurd cc)
 same_value (Text s) (Text t) = let d = bytes_eq-Decides s t in (λ e. ap Text (d.0 e), λ e. let same : s ≡ t = cc in d.1 same)
+
+-- two lists of one length that agree at each place
+pub same_rows : (xs ys : List Value) (n : ℕ) → length xs ≡ length ys → length xs ≤ n → ((i : ℕ) → i < n → slice_get xs i ≡ slice_get ys i) → ys ≡ xs
+same_rows xs ys n len all same =
+    same_lists ys xs (sym len) (λ k d lt.
+    let within : k < length xs = omega (arith, lt, len) in
+    let here : Some (get_or xs k d) ≡ Some (get_or ys k d) = sym (slice_get-get_or xs k d within) ∙ same k (omega (arith, within, all)) ∙ slice_get-get_or ys k d lt in
+    cc)
 
 -- ---- a row comes with no reply but Found
 
@@ -74,3 +87,13 @@ has_place p call fault fit room is =
     let parts : or_else (call_fault p.columns call) (cond (eqb p.calls p.last_call) (Some (Spent p.calls)) None) ≡ Some fault = is in
     let none : None ≡ Some fault = rw (fit, other) at parts in
     cc
+
+-- ---- a line tells a step where it has the reply and what the buffer shows
+
+cells_are : (step : Step) (row new : List Value) (reply : Reply) → reply ≡ step.reply → new ≡ shown step row → IsShown step row → shown_by reply new ≡ step.cells
+cells_are step row new reply same left shows = ap (λ (r : Reply). shown_by r new) same ∙ ap (λ (xs : List Value). shown_by step.reply xs) left ∙ sym shows
+
+pub told_by : (e : TraceLine) (step : Step) (row new : List Value) (reply : Reply) (t : Bool) → reply ≡ step.reply → new ≡ shown step row → IsShown step row
+    → MatchBool t (HasReply e.replied reply new) (¬ HasReply e.replied reply new) → MatchBool t (Tells e step) (¬ Tells e step)
+told_by e step row new reply true same left shows has = (has.0 ∙ same, has.1 ∙ cells_are step row new reply same left shows)
+told_by e step row new reply false same left shows other = λ tells. other (tells.0 ∙ sym same, tells.1 ∙ sym (cells_are step row new reply same left shows))

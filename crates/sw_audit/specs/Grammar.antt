@@ -36,16 +36,24 @@ schema_text text = do
   columns ← listed text
   taken (schema_of columns)
 
--- table SIZE PERCENT COLUMNS
-unfoldable pub head_of : List ℕ → Option Trace
-head_of line = do
+-- SIZE, PERCENT and the columns behind the word table
+unfoldable pub table_text : List ℕ → Option (ℕ × ℕ × List Column)
+table_text line = do
   rest ← behind_word (codes "table") line
   s ← part_at 32 rest
   p ← part_at 32 s.1
   size ← number_within 1 524288 s.0
   percent ← number_within 0 100 p.0
   schema ← schema_text p.1
-  Some (record { size = size; percent = percent; schema = schema; lines = [] })
+  Some (size, percent, schema)
+
+abbrev pub without_lines : Option (ℕ × ℕ × List Column) → Option Trace
+without_lines None = None
+without_lines (Some t) = Some (record { size = t.0; percent = t.1; schema = t.2; lines = [] })
+
+-- table SIZE PERCENT COLUMNS: the Table of a trace that has no lines yet
+abbrev pub head_of : List ℕ → Option Trace
+head_of line = without_lines (table_text line)
 
 -- ---- each later line
 

@@ -58,7 +58,7 @@ fn small(text: &[u8], least: u32, most: u32) -> Option<u32>
 }
 
 /// The Table that the first line names, without lines yet.
-#[tactic(auto, unfolding(crate::specs::Grammar::head_of))]
+#[tactic(auto, unfolding(crate::specs::Grammar::table_text))]
 fn head(alloc: Global, line: &[u8]) -> Result<Option<Trace>, OutOfMemory>
     ensures value { IfOk result (λ t. t ≡ head_of line.now) }
     ensures fits { IfOk result (λ t. IfSome t IsTrace) }
