@@ -1,5 +1,5 @@
 use Rattle.std.proofs.Common.{◌≡◌, List, None, sym, ap, subst, All}
-use Rattle.std.proofs.lemmas.List.Elements.{All-permutation}
+use Rattle.std.proofs.lemmas.List.Sorted.{All-permutation}
 use Rattle.sw_column.specs.Fit.{call_fault}
 use Rattle.sw_tmodel.specs.Plain.{PlainTable, shape_of}
 use Rattle.sw_audit.specs.Verdicts.{table_of}
