@@ -6,12 +6,14 @@ mod answers;
 mod audit_text;
 mod judging;
 mod late;
+mod printing;
 mod reading;
 mod trace;
 mod verdict;
 
 pub use audit_text::audit;
 pub use judging::judge;
+pub use printing::print;
 pub use reading::{read, reading_is_exact};
 pub use trace::{Trace, TraceLine, TraceLines};
 pub use verdict::{AuditFault, Verdict};

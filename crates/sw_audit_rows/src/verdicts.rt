@@ -1,7 +1,8 @@
 // Whole traces: the bucket and its pool, the range of a column, and each reason for a place to be bad.
 
 use crate::auditing::audits;
-use sw_audit::{AuditFault, Verdict};
+use std::test::Fail;
+use sw_audit::{AuditFault, Verdict, print};
 
 #[test]
 fn a_full_bucket(rt: HostRuntime) {
@@ -187,4 +188,11 @@ fn bad_places(rt: HostRuntime) {
         ),
     ];
     audits(&rt, rt.alloc(), &rows);
+}
+
+#[test]
+fn printed(rt: HostRuntime) -> Result<(), Fail> {
+    assert_eq!(rt; print(rt.alloc(), Verdict::Ok(6))?.as_str(), "ok 6\n");
+    assert_eq!(rt; print(rt.alloc(), Verdict::No(5))?.as_str(), "no 5\n");
+    Ok(())
 }
