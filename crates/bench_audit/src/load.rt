@@ -1,0 +1,39 @@
+//! Traces with known replies.
+
+use std::alloc::{AllocError, Global};
+
+/// How many keys a trace has.
+const KEYS: u64 = 256;
+
+/// How many callers a trace has. Each one's places rise, and its lines stand together.
+const CALLERS: u64 = 4;
+
+/// The call at a place, with its reply. Each key has its turn once in 256 places: it is set, counted up and read, round by
+/// round.
+fn put_line(text: &mut String, at: u64) -> Result<(), AllocError> {
+    let key = at % KEYS;
+    let caller = at % CALLERS;
+    let turn = at / KEYS;
+    write!(text, "{at} {caller} ")?;
+    match turn % 3 {
+        0 => writeln!(text, "set {key:02x} n={turn} > stored"),
+        1 => writeln!(text, "incr {key:02x} n 1 > value {turn}"),
+        _ => {
+            let value = turn.saturating_sub(1);
+            writeln!(text, "get {key:02x} > row {value}")
+        }
+    }
+}
+
+/// A trace of so many calls, caller by caller.
+pub fn trace(alloc: Global, calls: u64) -> Result<String, AllocError> {
+    let mut text = String::from_str(alloc, "table 256 20 n:int:8\n")?;
+    for caller in 0..CALLERS {
+        for at in 0..calls {
+            if at % CALLERS == caller {
+                put_line(&mut text, at)?;
+            }
+        }
+    }
+    Ok(text)
+}

@@ -1,0 +1,5 @@
+pub mod Grammar
+pub mod Reading
+pub mod Verdicts
+pub mod Judging
+pub mod Printing

@@ -1,0 +1,6 @@
+pub mod Pieces
+pub mod Values
+pub mod Calls
+pub mod Replies
+pub mod Columns
+pub mod Views
