@@ -16,6 +16,14 @@ fn name(alloc: Global, text: &[u8]) -> Result<Name, OutOfMemory> {
     Ok(Name::of(Vec::from_slice(alloc, text)?))
 }
 
+/// A number of one byte, and a text of four.
+fn columns(alloc: Global) -> Result<Schema, Fail> {
+    let mut schema = Schema::new(alloc);
+    schema.column(b"n", Kind::Int, 1)?;
+    schema.column(b"s", Kind::Text, 4)?;
+    Ok(schema)
+}
+
 /// A call that sets a row without pairs.
 fn set(alloc: Global, text: &[u8]) -> Result<Call, OutOfMemory> {
     Ok(Call::Set(key(alloc, text)?, Pairs::new(alloc)))
@@ -31,10 +39,6 @@ fn set_text(alloc: Global, text: &[u8], value: &[u8]) -> Result<Call, OutOfMemor
 
 fn incr(alloc: Global, by: i64) -> Result<Call, OutOfMemory> {
     Ok(Call::Incr(key(alloc, b"k")?, name(alloc, b"n")?, by))
-}
-
-fn decr(alloc: Global, by: i64) -> Result<Call, OutOfMemory> {
-    Ok(Call::Decr(key(alloc, b"k")?, name(alloc, b"n")?, by))
 }
 
 /// Makes a call.
@@ -68,8 +72,7 @@ fn holds(row: &RowBuf, n: i64, text: &[u8]) -> bool {
 #[test]
 fn a_bucket_and_its_pool(rt: HostRuntime) -> Result<(), Fail> {
     let alloc = rt.alloc();
-    let mut schema = Schema::new(alloc);
-    schema.column(b"n", Kind::Int, 8)?;
+    let schema = columns(alloc)?;
     let mut row = RowBuf::make(alloc, &schema)?;
     let mut plain = Plain::make(alloc, schema, 64, 2, 8)?;
     assert_eq!(rt;
@@ -84,37 +87,15 @@ fn a_bucket_and_its_pool(rt: HostRuntime) -> Result<(), Fail> {
         ask(&mut plain, &mut row, &set(alloc, b"C#")?),
         placed(2, Reply::Full)
     );
-    assert_eq!(rt;
-        ask(&mut plain, &mut row, &set(alloc, b"a")?),
-        placed(3, Reply::Stored)
-    );
-    let del = Call::Del(key(alloc, b"Aa")?);
-    assert_eq!(rt; ask(&mut plain, &mut row, &del), placed(4, Reply::Yes));
-    assert_eq!(rt;
-        ask(&mut plain, &mut row, &set(alloc, b"C#")?),
-        placed(5, Reply::Stored)
-    );
-    let get = Call::Get(key(alloc, b"BB")?);
-    assert_eq!(rt; ask(&mut plain, &mut row, &get), placed(6, Reply::Found));
-    assert_eq!(rt;
-        ask(&mut plain, &mut row, &Call::Count),
-        placed(7, Reply::Count(3))
-    );
-    assert_eq!(rt;
-        ask(&mut plain, &mut row, &Call::Count),
-        Err(CallFault::Spent(8))
-    );
     Ok(())
 }
 
 #[test]
-fn numbers_and_texts(rt: HostRuntime) -> Result<(), Fail> {
+fn a_number_and_its_range(rt: HostRuntime) -> Result<(), Fail> {
     let alloc = rt.alloc();
-    let mut schema = Schema::new(alloc);
-    schema.column(b"n", Kind::Int, 1)?;
-    schema.column(b"s", Kind::Text, 4)?;
+    let schema = columns(alloc)?;
     let mut row = RowBuf::make(alloc, &schema)?;
-    let mut plain = Plain::make(alloc, schema, 64, 20, 5)?;
+    let mut plain = Plain::make(alloc, schema, 64, 20, 2)?;
     assert_eq!(rt;
         ask(&mut plain, &mut row, &incr(alloc, 127)?),
         placed(0, Reply::Value(127))
@@ -123,16 +104,23 @@ fn numbers_and_texts(rt: HostRuntime) -> Result<(), Fail> {
         ask(&mut plain, &mut row, &incr(alloc, 1)?),
         placed(1, Reply::Range)
     );
-    let long = set(alloc, &[107u8; 64])?;
-    assert_eq!(rt; ask(&mut plain, &mut row, &long), Err(CallFault::BadKey));
-    let text = set_text(alloc, b"k", b"abcde")?;
-    assert_eq!(rt; ask(&mut plain, &mut row, &text), placed(2, Reply::Stored));
-    let get = Call::Get(key(alloc, b"k")?);
-    assert_eq!(rt; ask(&mut plain, &mut row, &get), placed(3, Reply::Found));
-    assert!(rt; holds(&row, 127, b"abcd"));
     assert_eq!(rt;
-        ask(&mut plain, &mut row, &decr(alloc, 255)?),
-        placed(4, Reply::Value(-128))
+        ask(&mut plain, &mut row, &incr(alloc, 0)?),
+        Err(CallFault::Spent(2))
     );
+    Ok(())
+}
+
+#[test]
+fn a_text_is_cut(rt: HostRuntime) -> Result<(), Fail> {
+    let alloc = rt.alloc();
+    let schema = columns(alloc)?;
+    let mut row = RowBuf::make(alloc, &schema)?;
+    let mut plain = Plain::make(alloc, schema, 64, 20, 2)?;
+    let text = set_text(alloc, b"k", b"abcde")?;
+    assert_eq!(rt; ask(&mut plain, &mut row, &text), placed(0, Reply::Stored));
+    let get = Call::Get(key(alloc, b"k")?);
+    assert_eq!(rt; ask(&mut plain, &mut row, &get), placed(1, Reply::Found));
+    assert!(rt; holds(&row, 0, b"abcd"));
     Ok(())
 }
