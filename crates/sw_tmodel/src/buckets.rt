@@ -47,13 +47,6 @@ impl Buckets {
         self.counts.len()
     }
 
-    /// The rows of the pool.
-    pub fn pool(&self) -> u32
-        ensures { result ≡ self.now.pool }
-    {
-        self.pool
-    }
-
     /// Whether a bucket has room for one row more.
     pub fn has_room(&self, bucket: usize) -> bool
         requires { bucket < length self.now.counts }
