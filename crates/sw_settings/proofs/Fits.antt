@@ -1,6 +1,6 @@
 -- Settings without a fault cut by a framing that can cut.
-use Rattle.std.proofs.Common.{◌≡◌, ℕ, ◌<◌, ◌≤◌, Bool, true, false, cond, List, [], length, Option, Some, None, refl, sym, subst, true≢false, arith}
-use Rattle.std.specs.Prelude.{codes, nat_le, ℤ, pos, negsuc}
+use Rattle.std.proofs.Common.{◌≡◌, ℕ, ◌<◌, ◌≤◌, Bool, true, false, cond, List, [], length, Option, Some, None, refl, sym, true≢false, arith}
+use Rattle.std.specs.Prelude.{codes, nat_le, pos, negsuc}
 use Rattle.std.specs.Option.{unwrap_or}
 use Rattle.sw_frame.specs.Cut.{IsFit}
 use Rattle.sw_frame.specs.declared.framing.Framing.TheVariants.{Raw, Eof, Length}

@@ -1,5 +1,5 @@
 -- The first refusal that applies.
-use Rattle.std.specs.Prelude.{◌≡◌, ℕ, List, codes, Bool, ◌&&◌, is_none, Option, Some, None, ◌⊎◌, if◌then◌else◌}
+use Rattle.std.specs.Prelude.{◌≡◌, ℕ, List, codes, ◌&&◌, is_none, Option, Some, None, ◌⊎◌, if◌then◌else◌}
 use Rattle.std.specs.Option.{option_map, option_or}
 use Rattle.sw_settings.specs.declared.pair.Pair.{Pair}
 use Rattle.sw_settings.specs.declared.checks.Check.TheVariants as checks

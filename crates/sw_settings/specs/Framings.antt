@@ -1,5 +1,5 @@
 -- How a stream is cut, by what is set.
-use Rattle.std.specs.Prelude.{ℕ, List, [], codes, Option, Some, None, if◌then◌else◌}
+use Rattle.std.specs.Prelude.{ℕ, List, [], codes, Option, if◌then◌else◌}
 use Rattle.std.specs.Option.{unwrap_or}
 use Rattle.sw_text.specs.Then.{◌>>=◌}
 use Rattle.sw_frame_len.specs.declared.rule.Letter.{Letter}
