@@ -1,10 +1,10 @@
 -- What two binds of one session, each by a pass of its own, say of one another.
-use Rattle.std.proofs.Common.{◌≡◌, ◌≢◌, ◌≤◌, ◌+◌, ◌++◌, ℕ, zero, suc, Bool, true, false, true≢false, List, [], ◌∷◌, sym, refl, ap, ◌∙◌, subst, inl, inr, Result, Ok, Err, arith}
+use Rattle.std.proofs.Common.{◌≡◌, ◌≤◌, ◌+◌, ℕ, Bool, true, false, true≢false, List, [], ◌∷◌, sym, refl, ap, ◌∙◌, subst, inl, inr, Result, Ok, Err, arith}
 use mathlib.Core.Logic.{dite}
 use native.Mathlib.Decide.{ℕ_discrete}
 use Rattle.sw_ports.specs.declared.word.Word.{Word}
 use Rattle.sw_ports.specs.declared.answers.BindFault.{BindFault}
-use Rattle.sw_ports.specs.Answers.{bind_answer, Binds}
+use Rattle.sw_ports.specs.Answers.{bind_answer}
 use Rattle.sw_ports.specs.Claims.{In}
 use Rattle.sw_ports.proofs.Answered.{bind_other, bind_bound}
 use Rattle.sw_sessions.specs.declared.rule.Call.{Call}
@@ -20,12 +20,6 @@ Answer = Result (Unit {0}) BindFault
 abbrev is_ok : Answer → Bool
 is_ok (Ok done) = true
 is_ok (Err fault) = false
-
--- a bind to a uid other than 0 found a word
-pub bind_told : {B : Type 0} (finds : B → ℕ → ℕ → Word → B → Type 0) (before : B) (session uid : ℕ) (answer : Answer) (after : B)
-    → uid ≢ 0 → Binds finds before session uid answer after → (found : Word) × finds before session uid found after × (answer ≡ bind_answer session found)
-bind_told finds before session zero answer after some h = absurd (some refl)
-bind_told finds before session (suc uid) answer after some h = h
 
 word_is : (found : Word) (session : ℕ) → found.number ≡ session → found.uid ≡ 0 → found ≡ record { number = session; uid = 0 }
 word_is found session n u = λ i. record { number = n i; uid = u i }

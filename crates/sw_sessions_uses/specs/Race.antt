@@ -1,5 +1,5 @@
 -- What may come of two threads that bind one session, one to 7 and one to 9.
-use Rattle.std.specs.Prelude.{◌≡◌, ◌≢◌, ℕ, Result, Ok, Err}
+use Rattle.std.specs.Prelude.{◌≡◌, ◌≢◌, Ok}
 use Rattle.sw_sessions_uses.specs.declared.two_threads.Outcome.{Outcome}
 
 -- at most one of them was Ok, and the release found its uid
