@@ -1,6 +1,9 @@
-// Schedules that are played whole, against records that were written out by hand from what the server promises.
+// Whole runs of the command: each status with its text, and schedules against records that were written out by hand from what
+// the server promises.
 #![tactic(auto)]
 
+#[cfg(test)]
+mod commands;
 #[cfg(test)]
 mod end_of_link;
 #[cfg(test)]

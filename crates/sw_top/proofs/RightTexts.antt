@@ -26,9 +26,12 @@ use Rattle.sw_world.proofs.Start.{framing_run}
 use Rattle.sw_world.proofs.Reached.{right_reached, drained_reached}
 use Rattle.sw_top.specs.declared.status.Status.{Status}
 use Rattle.sw_top.specs.declared.status.Status.TheVariants as statuses
-use Rattle.sw_top.specs.Run.{stepped, played, fresh, account_text, drill_text, played_or, answered, answer_of}
-use Rattle.sw_top.specs.Says.{FromSource, FromSink, Said}
-use Rattle.sw_top.specs.Rightly.{IsRightText, PrintsRight}
+use Rattle.sw_top.specs.Run.{stepped, played, fresh, account_text, drill_text, played_or, answered}
+use Rattle.sw_top.specs.Says.{FromSource, FromSink, DueBy, Said}
+use Rattle.sw_top.specs.Rightly.{IsRightText, IsRightFor, PrintsRight}
+use Rattle.sw_top.specs.declared.words.Command.{Command}
+use Rattle.sw_top.specs.declared.words.Command.TheVariants.{Drill as DrillCommand, Audit}
+use Rattle.sw_top.specs.Words.{command_of}
 
 -- the steps that are played are those that the core takes
 played_run : (xs : List Step) (s : State) → played xs s ≡ run xs s
@@ -67,12 +70,18 @@ right_answer : (text : List ℕ) (r : Result Drill ℕ) → answered r ≡ Ok te
 right_answer text (Err n) a = absurd cc
 right_answer text (Ok d) a = right_by text d (fault_of d.pairs) refl a
 
--- what was written at Ok is such a text
+right_for : (o : Option Command) (s : FromSource) (text : List ℕ) → DueBy o s statuses.Ok text → IsRightFor o text
+right_for None s text m = tt
+right_for (Some DrillCommand) s text m = right_answer text (drill_of m.0) m.2
+right_for (Some Audit) s text m = tt
+
+-- what was written at Ok is such a text, if the words name a drill
 pub prints_right : (words : List (List ℕ)) (s : FromSource) (k : FromSink) (result : Status) → Said words s k result → PrintsRight words s k result
-prints_right words s k statuses.Ok h = (h.0, h.1, right_answer h.0 (drill_of h.1.1.0) h.1.1.2, h.2)
+prints_right words s k statuses.Ok h = (h.0, h.1, right_for (command_of words) s h.0 h.1, h.2)
 prints_right words s k (statuses.BadLine n) h = tt
 prints_right words s k (statuses.Settings fault) h = tt
 prints_right words s k statuses.InputLong h = tt
+prints_right words s k (statuses.No at) h = tt
 prints_right words s k statuses.Usage h = tt
 prints_right words s k statuses.ReadFault h = tt
 prints_right words s k statuses.WriteFault h = tt

@@ -1,28 +1,40 @@
-use Rattle.std.proofs.Common.{◌≡◌, ℕ, ◌≤◌, Bool, true, false, true≢false, List, ◌++◌, length, Option, Some, None, Result, Ok, Err, refl, ap, sym, subst, ◌∙◌, inl, inr, arith, length-append}
+use Rattle.std.proofs.Common.{◌≡◌, ℕ, ◌≤◌, false, true≢false, List, ◌++◌, codes, length, Option, Some, None, Result, Ok, Err, refl, ap, sym, subst, ◌∙◌, inl, inr, arith, length-append}
 use Rattle.std.proofs.lemmas.List.{append-nil}
 use Rattle.std.specs.Io.KnownBytes.{Consumes, IsAtEnd}
 use Rattle.sw_drill.specs.declared.schedule.Drill.{Drill}
 use Rattle.sw_drill.specs.Draft.{drill_of}
 use Rattle.sw_settings.specs.declared.faults.SettingsFault.{SettingsFault}
 use Rattle.sw_settings.specs.Faults.{IsRefusal, fault_of}
-use Rattle.sw_settings.specs.declared.faults.SettingsFault.TheVariants as faults
 use Rattle.sw_top.specs.declared.refusal.Refusal.{Refusal}
-use Rattle.sw_top.specs.declared.refusal.Refusal.TheVariants.{Line, Settings}
+use Rattle.sw_top.specs.declared.refusal.Refusal.TheVariants.{Line, Settings, Place}
+use Rattle.sw_audit.specs.declared.verdict.Verdict.{Verdict}
+use Rattle.sw_audit.specs.declared.verdict.Verdict.TheVariants as verdicts
+use Rattle.sw_audit.specs.Printing.{verdict_text}
+use Rattle.sw_audit.specs.Verdicts.{IsAudit}
+use Rattle.sw_top.specs.declared.words.Command.{Command}
+use Rattle.sw_top.specs.declared.words.Command.TheVariants.{Drill as DrillCommand, Audit}
+use Rattle.sw_top.specs.Answering.{AnswersTrace, Answers}
 use Rattle.sw_top.specs.Refusals.{is_memory, refusal_text, refusal_status}
-use Rattle.sw_top.specs.Run.{played_or, answered, answer_of}
-use Rattle.sw_top.specs.Words.{drill_words}
-use Rattle.sw_top.specs.Says.{FromSource, FromSink, IsInput, IsWritten, IsCut, Meant, Finishes, cut_status, Does, Said, expected_by, expected, IsComplete}
+use Rattle.sw_top.specs.Run.{played_or, answered}
+use Rattle.sw_top.specs.Words.{command_of}
+use Rattle.sw_top.specs.Says.{FromSource, FromSink, IsInput, IsAnswered, IsWritten, IsCut, Due, DueBy, Meant, Finishes, cut_status, DoesBy, Said, expected_by, expected, Expected, IsComplete}
 use Rattle.sw_top.specs.declared.status.Status.{Status}
 use Rattle.sw_top.specs.declared.status.Status.TheVariants as statuses
+
+-- no words and no source make a fault of the sink right
+never_due : (o : Option Command) (s : FromSource) (text : List ℕ) → DueBy o s statuses.WriteFault text → ⊥
+never_due None s text m = let e : statuses.WriteFault ≡ statuses.Usage = m.0 in cc
+never_due (Some c) s text m = m
 
 all_written : (words : List (List ℕ)) (s : FromSource) (k : FromSink) (status : Status) (text : List ℕ) → Meant words s status text → IsWritten k text → Said words s k status
 all_written words s k statuses.Ok text m w = (text, m, w)
 all_written words s k (statuses.BadLine n) text m w = (text, m, w)
 all_written words s k (statuses.Settings fault) text m w = (text, m, w)
 all_written words s k statuses.InputLong text m w = (text, m, w)
+all_written words s k (statuses.No at) text m w = (text, m, w)
 all_written words s k statuses.Usage text m w = (text, m, w)
 all_written words s k statuses.ReadFault text m w = (text, m, w)
-all_written words s k statuses.WriteFault text m w = absurd m
+all_written words s k statuses.WriteFault text m w = absurd (never_due (command_of words) s text m)
 all_written words s k statuses.OutOfMemory text m w = (text, m, inl w)
 
 was_cut : (words : List (List ℕ)) (s : FromSource) (k : FromSink) (status : Status) (text : List ℕ) → Meant words s status text → IsCut k text → Said words s k (cut_status status)
@@ -30,16 +42,17 @@ was_cut words s k statuses.Ok text m w = (statuses.Ok, text, m, w)
 was_cut words s k (statuses.BadLine n) text m w = (statuses.BadLine n, text, m, w)
 was_cut words s k (statuses.Settings fault) text m w = (statuses.Settings fault, text, m, w)
 was_cut words s k statuses.InputLong text m w = (statuses.InputLong, text, m, w)
+was_cut words s k (statuses.No at) text m w = (statuses.No at, text, m, w)
 was_cut words s k statuses.Usage text m w = (statuses.Usage, text, m, w)
 was_cut words s k statuses.ReadFault text m w = (statuses.ReadFault, text, m, w)
-was_cut words s k statuses.WriteFault text m w = absurd m
+was_cut words s k statuses.WriteFault text m w = absurd (never_due (command_of words) s text m)
 was_cut words s k statuses.OutOfMemory text m w = (text, m, inr w)
 
 said_by : (words : List (List ℕ)) (s : FromSource) (k : FromSink) (status : Status) (text : List ℕ) (result : Status) → Meant words s status text → Finishes k status text result → Said words s k result
 said_by words s k status text result m (inl f) = subst (λ r. Said words s k r) (sym f.0) (all_written words s k status text m f.1)
 said_by words s k status text result m (inr f) = subst (λ r. Said words s k r) (sym f.0) (was_cut words s k status text m f.1)
 
-pub said : (words : List (List ℕ)) (s : FromSource) (k : FromSink) (result : Status) → Does words s k result → Said words s k result
+pub said : (words : List (List ℕ)) (s : FromSource) (k : FromSink) (result : Status) → DoesBy (command_of words) s k result → Said words s k result
 said words s k result d = said_by words s k d.0 d.1 result d.2 d.3
 
 -- ---- the input alone decides
@@ -79,22 +92,56 @@ settings_answer : (r : Result Drill ℕ) (fault : SettingsFault) → answered r 
 settings_answer (Ok d) fault e = settings_by d (fault_of d.pairs) fault e
 settings_answer (Err m) fault e = absurd cc
 
+-- what an answer says of the status
+
+ok_expected : (c : Command) (input text : List ℕ) → Answers c input (Ok text) → Expected c input statuses.Ok
+ok_expected DrillCommand input text a = sym (ok_answer (drill_of input) text a)
+ok_expected Audit input text a = (a.0, a.1)
+
+line_expected : (c : Command) (input : List ℕ) (n : ℕ) → Answers c input (Err (Line n)) → Expected c input (statuses.BadLine n)
+line_expected DrillCommand input n a = sym (line_answer (drill_of input) n a)
+line_expected Audit input n a = a
+
+settings_expected : (c : Command) (input : List ℕ) (fault : SettingsFault) → Answers c input (Err (Settings fault)) → Expected c input (statuses.Settings fault)
+settings_expected DrillCommand input fault a = sym (settings_answer (drill_of input) fault a)
+settings_expected Audit input fault a = absurd a
+
+place_by : (d : Drill) (o : Option SettingsFault) (at : ℕ) → played_or d o ≡ Err (Place at) → ⊥
+place_by d None at e = cc
+place_by d (Some fault) at e = cc
+
+place_answer : (r : Result Drill ℕ) (at : ℕ) → answered r ≡ Err (Place at) → ⊥
+place_answer (Ok d) at e = place_by d (fault_of d.pairs) at e
+place_answer (Err n) at e = cc
+
+place_expected : (c : Command) (input : List ℕ) (at : ℕ) → Answers c input (Err (Place at)) → Expected c input (statuses.No at)
+place_expected DrillCommand input at a = absurd (place_answer (drill_of input) at a)
+place_expected Audit input at a = a
+
+-- what is due for a known command
+due : (words : List (List ℕ)) (c : Command) (s : FromSource) (status : Status) (text : List ℕ) → command_of words ≡ Some c → Meant words s status text → Due c s status text
+due words c s status text is m = subst (λ (o : Option Command). DueBy o s status text) is m
+
+-- all that was there is answered so
+answered_all : (c : Command) (s : FromSource) (r : Result (List ℕ) Refusal) (input : List ℕ) → s.left ≡ Some input → IsAnswered c s r → Answers c input r
+answered_all c s r input e a = subst (λ (x : List ℕ). Answers c x r) (is_input s a.0 input a.1 e) a.2
+
 pub complete : (words : List (List ℕ)) (s : FromSource) (k : FromSink) (result : Status) → Said words s k result → IsComplete words s k result
-complete words s k statuses.Ok d drill no_read no_write input e fits =
-    let f = is_input s d.1.1.0 input d.1.1.1 e in
-    inl (sym (ok_answer (drill_of input) d.0 (rw f at d.1.1.2)))
-complete words s k (statuses.BadLine n) d drill no_read no_write input e fits =
-    let f = is_input s d.1.1.0 input d.1.1.1 e in
-    inl (sym (line_answer (drill_of input) n (rw f at d.1.1.2)))
-complete words s k (statuses.Settings fault) d drill no_read no_write input e fits =
-    let f = is_input s d.1.1.0 input d.1.1.1 e in
-    inl (sym (settings_answer (drill_of input) fault (rw f at d.1.1.2)))
-complete words s k statuses.InputLong d drill no_read no_write input e fits =
-    absurd (omega (arith, part_of s.left_new d.1.1.0 input (subst (λ l. Consumes l s.left_new d.1.1.0) e d.1.1.1), d.1.1.2, fits))
-complete words s k statuses.Usage d drill no_read no_write input e fits = let f : true ≡ false = sym drill ∙ d.1.0 in absurd cc
-complete words s k statuses.ReadFault d drill no_read no_write input e fits = absurd (no_read d.1.2)
-complete words s k statuses.WriteFault d drill no_read no_write input e fits = absurd (no_write d.3.1)
-complete words s k statuses.OutOfMemory d drill no_read no_write input e fits = inr refl
+complete words s k statuses.Ok d c is no_read no_write input e fits =
+    inl (ok_expected c input d.0 (answered_all c s (Ok d.0) input e (due words c s statuses.Ok d.0 is d.1)))
+complete words s k (statuses.BadLine n) d c is no_read no_write input e fits =
+    inl (line_expected c input n (answered_all c s (Err (Line n)) input e (due words c s (statuses.BadLine n) d.0 is d.1).0))
+complete words s k (statuses.Settings fault) d c is no_read no_write input e fits =
+    inl (settings_expected c input fault (answered_all c s (Err (Settings fault)) input e (due words c s (statuses.Settings fault) d.0 is d.1).0))
+complete words s k statuses.InputLong d c is no_read no_write input e fits =
+    let came = (due words c s statuses.InputLong d.0 is d.1).0 in
+    absurd (omega (arith, part_of s.left_new came.0 input (subst (λ l. Consumes l s.left_new came.0) e came.1), came.2, fits))
+complete words s k (statuses.No at) d c is no_read no_write input e fits =
+    inl (place_expected c input at (answered_all c s (Err (Place at)) input e (due words c s (statuses.No at) d.0 is d.1).0))
+complete words s k statuses.Usage d c is no_read no_write input e fits = absurd (due words c s statuses.Usage d.0 is d.1)
+complete words s k statuses.ReadFault d c is no_read no_write input e fits = absurd (no_read (due words c s statuses.ReadFault d.0 is d.1).1)
+complete words s k statuses.WriteFault d c is no_read no_write input e fits = absurd (no_write d.3.1)
+complete words s k statuses.OutOfMemory d c is no_read no_write input e fits = inr refl
 
 -- ---- refusals
 
@@ -105,7 +152,8 @@ not_memory (Some g) fault (inl e) known = ap Some (sym e)
 not_memory (Some g) fault (inr e) known = absurd (true≢false (sym (ap is_memory e) ∙ known))
 
 -- the status and the text of a refused input are right
-pub refused_meant : (words : List (List ℕ)) (s : FromSource) (refusal : Refusal) (status : Status) (text : List ℕ) → drill_words words ≡ true → (input : List ℕ) × IsInput s input × (answer_of input ≡ Err refusal) → status ≡ refusal_status refusal → text ≡ refusal_text refusal
-    → Meant words s status text
-refused_meant words s (Line n) status text drill came is t = subst (λ (x : Status). Meant words s x text) (sym is) (drill, came, t)
-refused_meant words s (Settings fault) status text drill came is t = subst (λ (x : Status). Meant words s x text) (sym is) (drill, came, t)
+pub refused_due : (c : Command) (s : FromSource) (refusal : Refusal) (status : Status) (text : List ℕ) → IsAnswered c s (Err refusal) → status ≡ refusal_status refusal → text ≡ refusal_text refusal
+    → Due c s status text
+refused_due c s (Line n) status text came is t = subst (λ (x : Status). Due c s x text) (sym is) (came, t)
+refused_due c s (Settings fault) status text came is t = subst (λ (x : Status). Due c s x text) (sym is) (came, t)
+refused_due c s (Place at) status text came is t = subst (λ (x : Status). Due c s x text) (sym is) (came, t)

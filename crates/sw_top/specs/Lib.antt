@@ -2,5 +2,6 @@ pub mod Words
 pub mod Statuses
 pub mod Refusals
 pub mod Run
+pub mod Answering
 pub mod Says
 pub mod Rightly

@@ -1,5 +1,5 @@
 -- Why an input is refused, and what is written then.
-use Rattle.std.specs.Prelude.{◌≡◌, ◌++◌, ℕ, List, [], codes, Bool, true, false, Option, Some, None, Result, Ok, Err}
+use Rattle.std.specs.Prelude.{◌≡◌, ◌++◌, ℕ, List, [], codes, Bool, true, false, Some, None, Result, Ok, Err}
 use Rattle.std.specs.Fmt.{decimal}
 use Rattle.sw_text.specs.Hex.{hex}
 use Rattle.sw_settings.specs.declared.pair.Pair.{Pair}
@@ -7,7 +7,9 @@ use Rattle.sw_settings.specs.declared.faults.SettingsFault.{SettingsFault}
 use Rattle.sw_settings.specs.declared.faults.SettingsFault.TheVariants.{Unknown, BadType, Range, Missing, Conflict, OutOfMemory}
 use Rattle.sw_settings.specs.Faults.{fault_of}
 use Rattle.sw_top.specs.declared.refusal.Refusal.{Refusal}
-use Rattle.sw_top.specs.declared.refusal.Refusal.TheVariants.{Line, Settings}
+use Rattle.sw_audit.specs.declared.verdict.Verdict.TheVariants as verdicts
+use Rattle.sw_audit.specs.Printing.{verdict_text}
+use Rattle.sw_top.specs.declared.refusal.Refusal.TheVariants.{Line, Settings, Place}
 use Rattle.sw_top.specs.declared.status.Status.{Status}
 use Rattle.sw_top.specs.declared.status.Status.TheVariants as statuses
 
@@ -35,11 +37,13 @@ line_text n = codes "fault line " ++ decimal n ++ codes "\n"
 abbrev pub refusal_text : Refusal → List ℕ
 refusal_text (Line n) = line_text n
 refusal_text (Settings fault) = settings_text fault
+refusal_text (Place at) = verdict_text (verdicts.No at)
 
 -- the status of a refused input
 abbrev pub refusal_status : Refusal → Status
 refusal_status (Line n) = statuses.BadLine n
 refusal_status (Settings fault) = statuses.Settings fault
+refusal_status (Place at) = statuses.No at
 
 abbrev pub is_memory : SettingsFault → Bool
 is_memory (Unknown key) = false

@@ -1,5 +1,5 @@
 -- What a user relies on, of the record that is printed.
-use Rattle.std.specs.Prelude.{◌≡◌, ℕ, List, slice_get, Some, None}
+use Rattle.std.specs.Prelude.{◌≡◌, ℕ, List, slice_get, Option, Some, None}
 use Rattle.sw_data.specs.declared.ended.Ended.{Ended}
 use Rattle.sw_record.specs.declared.step.Step.{Step}
 use Rattle.sw_record.specs.declared.record.LinkRecord.{LinkRecord}
@@ -16,6 +16,9 @@ use Rattle.sw_world.specs.Account.{at_end_of}
 use Rattle.sw_world.specs.Played.{Played}
 use Rattle.sw_top.specs.declared.status.Status.{Status}
 use Rattle.sw_top.specs.declared.status.Status.TheVariants as statuses
+use Rattle.sw_top.specs.declared.words.Command.{Command}
+use Rattle.sw_top.specs.declared.words.Command.TheVariants.{Drill, Audit}
+use Rattle.sw_top.specs.Words.{command_of}
 use Rattle.sw_top.specs.Says.{FromSource, FromSink, Meant, IsWritten}
 
 -- the text is that of a record that was played by settings without a fault; the record is right, and drained once its link is
@@ -28,12 +31,19 @@ pub record IsRightText (text : List ℕ) : Type 0 where
   pub right : Right (core_terms (framing_of pairs)) (Played (framing_of pairs) steps) (at_end_of (run steps (start (framing_of pairs))))
   pub drained : (at : ℕ) (l : LinkRecord) (e : Ended) → slice_get (Played (framing_of pairs) steps).links at ≡ Some l → l.state ≡ Over e → Drained (core_terms (framing_of pairs)) (Played (framing_of pairs) steps)
 
--- at Ok the text that was meant and written is such a text
+-- the text of a drill is such a text
+abbrev pub IsRightFor : Option Command → List ℕ → Type 0
+IsRightFor None text = Unit {0}
+IsRightFor (Some Drill) text = IsRightText text
+IsRightFor (Some Audit) text = Unit {0}
+
+-- at Ok the text that was meant and written is such a text, if the words name a drill
 abbrev pub PrintsRight : List (List ℕ) → FromSource → FromSink → Status → Type 0
-PrintsRight words s k statuses.Ok = (text : List ℕ) × Meant words s statuses.Ok text × IsRightText text × IsWritten k text
+PrintsRight words s k statuses.Ok = (text : List ℕ) × Meant words s statuses.Ok text × IsRightFor (command_of words) text × IsWritten k text
 PrintsRight words s k (statuses.BadLine n) = Unit {0}
 PrintsRight words s k (statuses.Settings fault) = Unit {0}
 PrintsRight words s k statuses.InputLong = Unit {0}
+PrintsRight words s k (statuses.No at) = Unit {0}
 PrintsRight words s k statuses.Usage = Unit {0}
 PrintsRight words s k statuses.ReadFault = Unit {0}
 PrintsRight words s k statuses.WriteFault = Unit {0}

@@ -1,12 +1,19 @@
-use Rattle.std.specs.Prelude.{◌≡◌, ℕ, ◌≤◌, ◌<◌, ◌++◌, List, codes, length, take, Option, Some, None, Bool, true, false, Result, Ok, Err, ◌⊎◌}
+use Rattle.std.specs.Prelude.{◌≡◌, ℕ, ◌≤◌, ◌<◌, List, codes, length, take, Option, Some, None, Bool, true, Result, Ok, Err, ◌⊎◌}
 use Rattle.std.specs.Prelude.{string_bytes}
 use Rattle.std.specs.Io.KnownBytes.{Consumes, Appends, IsAtEnd}
 use Rattle.sw_causes.specs.Causes.{Rises}
 use Rattle.sw_causes.specs.Whole.{Came, limit}
-use Rattle.sw_top.specs.Words.{drill_words}
-use Rattle.sw_top.specs.Run.{answer_of}
+use Rattle.sw_audit.specs.declared.verdict.Verdict.TheVariants as verdicts
+use Rattle.sw_audit.specs.declared.verdict.AuditFault.TheVariants as faults
+use Rattle.sw_audit.specs.Verdicts.{IsAudit}
+use Rattle.sw_audit.specs.Printing.{verdict_text}
+use Rattle.sw_top.specs.declared.words.Command.{Command}
+use Rattle.sw_top.specs.declared.words.Command.TheVariants.{Drill as DrillCommand, Audit}
+use Rattle.sw_top.specs.Words.{command_of}
+use Rattle.sw_top.specs.Answering.{Answers}
+use Rattle.sw_top.specs.declared.refusal.Refusal.{Refusal}
 use Rattle.sw_top.specs.Refusals.{line_text, settings_text}
-use Rattle.sw_top.specs.declared.refusal.Refusal.TheVariants.{Line, Settings}
+use Rattle.sw_top.specs.declared.refusal.Refusal.TheVariants.{Line, Settings, Place}
 use Rattle.sw_settings.specs.declared.faults.SettingsFault.{SettingsFault}
 use Rattle.sw_settings.specs.Faults.{fault_of}
 use Rattle.sw_drill.specs.declared.schedule.Drill.{Drill}
@@ -34,19 +41,23 @@ pub record IsInput (s : FromSource) (input : List ℕ) : Type 0 where
   pub ended : s.ended ≡ true
 
 -- what comes of an input that was read whole
-abbrev pub Answers : List ℕ → Outcome → Type 0
-Answers input (outcomes.Done text) = answer_of input ≡ Ok (string_bytes text)
-Answers input (outcomes.Refused refusal) = answer_of input ≡ Err refusal
-Answers input outcomes.Long = ⊥
-Answers input outcomes.Fault = ⊥
-Answers input outcomes.Memory = Unit {0}
+abbrev pub IsOutcome : Command → List ℕ → Outcome → Type 0
+IsOutcome c input (outcomes.Done text) = Answers c input (Ok (string_bytes text))
+IsOutcome c input (outcomes.Refused refusal) = Answers c input (Err refusal)
+IsOutcome c input outcomes.Long = ⊥
+IsOutcome c input outcomes.Fault = ⊥
+IsOutcome c input outcomes.Memory = Unit {0}
 
-abbrev pub Comes : FromSource → Outcome → Type 0
-Comes s (outcomes.Done text) = (input : List ℕ) × IsInput s input × (answer_of input ≡ Ok (string_bytes text))
-Comes s (outcomes.Refused refusal) = (input : List ℕ) × IsInput s input × (answer_of input ≡ Err refusal)
-Comes s outcomes.Long = Came s.left s.left_new (λ n. limit < n)
-Comes s outcomes.Fault = Came s.left s.left_new (λ n. n ≤ limit) × Rises s.faults s.faults_new
-Comes s outcomes.Memory = Unit {0}
+-- all that the source gave is answered so
+abbrev pub IsAnswered : Command → FromSource → Result (List ℕ) Refusal → Type 0
+IsAnswered c s r = (input : List ℕ) × IsInput s input × Answers c input r
+
+abbrev pub Comes : Command → FromSource → Outcome → Type 0
+Comes c s (outcomes.Done text) = IsAnswered c s (Ok (string_bytes text))
+Comes c s (outcomes.Refused refusal) = IsAnswered c s (Err refusal)
+Comes c s outcomes.Long = Came s.left s.left_new (λ n. limit < n)
+Comes c s outcomes.Fault = Came s.left s.left_new (λ n. n ≤ limit) × Rises s.faults s.faults_new
+Comes c s outcomes.Memory = Unit {0}
 
 -- ---- the sink
 
@@ -70,6 +81,7 @@ cut_status statuses.Ok = statuses.WriteFault
 cut_status (statuses.BadLine n) = statuses.WriteFault
 cut_status (statuses.Settings fault) = statuses.WriteFault
 cut_status statuses.InputLong = statuses.WriteFault
+cut_status (statuses.No at) = statuses.WriteFault
 cut_status statuses.Usage = statuses.WriteFault
 cut_status statuses.ReadFault = statuses.WriteFault
 cut_status statuses.WriteFault = statuses.WriteFault
@@ -81,20 +93,30 @@ Finishes k status text result = ((result ≡ status) × IsWritten k text) ⊎ ((
 
 -- ---- all together
 
--- the status and the text that are right for the words and the input
-abbrev pub Meant : List (List ℕ) → FromSource → Status → List ℕ → Type 0
-Meant words s statuses.Ok text = (drill_words words ≡ true) × ((input : List ℕ) × IsInput s input × (answer_of input ≡ Ok text))
-Meant words s (statuses.BadLine n) text = (drill_words words ≡ true) × ((input : List ℕ) × IsInput s input × (answer_of input ≡ Err (Line n))) × (text ≡ line_text n)
-Meant words s (statuses.Settings fault) text = (drill_words words ≡ true) × ((input : List ℕ) × IsInput s input × (answer_of input ≡ Err (Settings fault))) × (text ≡ settings_text fault)
-Meant words s statuses.InputLong text = (drill_words words ≡ true) × Came s.left s.left_new (λ n. limit < n) × (text ≡ codes "fault long\n")
-Meant words s statuses.Usage text = (drill_words words ≡ false) × (text ≡ codes "fault usage\n")
-Meant words s statuses.ReadFault text = (drill_words words ≡ true) × Came s.left s.left_new (λ n. n ≤ limit) × Rises s.faults s.faults_new × (text ≡ codes "fault read\n")
-Meant words s statuses.WriteFault text = ⊥
-Meant words s statuses.OutOfMemory text = (drill_words words ≡ true) × (text ≡ codes "fault memory\n")
+-- the status and the text that are right for a command and what the source gave
+abbrev pub Due : Command → FromSource → Status → List ℕ → Type 0
+Due c s statuses.Ok text = IsAnswered c s (Ok text)
+Due c s (statuses.BadLine n) text = IsAnswered c s (Err (Line n)) × (text ≡ line_text n)
+Due c s (statuses.Settings fault) text = IsAnswered c s (Err (Settings fault)) × (text ≡ settings_text fault)
+Due c s statuses.InputLong text = Came s.left s.left_new (λ n. limit < n) × (text ≡ codes "fault long\n")
+Due c s (statuses.No at) text = IsAnswered c s (Err (Place at)) × (text ≡ verdict_text (verdicts.No at))
+Due c s statuses.Usage text = ⊥
+Due c s statuses.ReadFault text = Came s.left s.left_new (λ n. n ≤ limit) × Rises s.faults s.faults_new × (text ≡ codes "fault read\n")
+Due c s statuses.WriteFault text = ⊥
+Due c s statuses.OutOfMemory text = text ≡ codes "fault memory\n"
 
--- what the call did: a status and a text that are right, and they were answered and written
-abbrev pub Does : List (List ℕ) → FromSource → FromSink → Status → Type 0
-Does words s k result = (status : Status) × (text : List ℕ) × Meant words s status text × Finishes k status text result
+-- words that name no command are Usage, whatever the source gives
+abbrev pub DueBy : Option Command → FromSource → Status → List ℕ → Type 0
+DueBy None s status text = (status ≡ statuses.Usage) × (text ≡ codes "fault usage\n")
+DueBy (Some c) s status text = Due c s status text
+
+-- the status and the text that are right for the words and what the source gave
+abbrev pub Meant : List (List ℕ) → FromSource → Status → List ℕ → Type 0
+Meant words s status text = DueBy (command_of words) s status text
+
+-- what was done for a command, or without one: a status and a text that are right, and they were answered and written
+abbrev pub DoesBy : Option Command → FromSource → FromSink → Status → Type 0
+DoesBy c s k result = (status : Status) × (text : List ℕ) × DueBy c s status text × Finishes k status text result
 
 -- what each answer says of the words, of what came, and of what was written
 abbrev pub Said : List (List ℕ) → FromSource → FromSink → Status → Type 0
@@ -102,6 +124,7 @@ Said words s k statuses.Ok = (text : List ℕ) × Meant words s statuses.Ok text
 Said words s k (statuses.BadLine n) = (text : List ℕ) × Meant words s (statuses.BadLine n) text × IsWritten k text
 Said words s k (statuses.Settings fault) = (text : List ℕ) × Meant words s (statuses.Settings fault) text × IsWritten k text
 Said words s k statuses.InputLong = (text : List ℕ) × Meant words s statuses.InputLong text × IsWritten k text
+Said words s k (statuses.No at) = (text : List ℕ) × Meant words s (statuses.No at) text × IsWritten k text
 Said words s k statuses.Usage = (text : List ℕ) × Meant words s statuses.Usage text × IsWritten k text
 Said words s k statuses.ReadFault = (text : List ℕ) × Meant words s statuses.ReadFault text × IsWritten k text
 Said words s k statuses.WriteFault = (status : Status) × (text : List ℕ) × Meant words s status text × IsCut k text
@@ -116,7 +139,24 @@ abbrev pub expected : Result Drill ℕ → Status
 expected (Ok d) = expected_by (fault_of d.pairs)
 expected (Err n) = statuses.BadLine n
 
+-- the status of a trace that was read whole: that of its verdict, or of its first line out of the grammar
+abbrev pub Judged : List ℕ → Status → Type 0
+Judged input statuses.Ok = (n : ℕ) × IsAudit input (Ok (verdicts.Ok n))
+Judged input (statuses.BadLine n) = IsAudit input (Err (faults.BadLine n))
+Judged input (statuses.Settings fault) = ⊥
+Judged input statuses.InputLong = ⊥
+Judged input (statuses.No at) = IsAudit input (Ok (verdicts.No at))
+Judged input statuses.Usage = ⊥
+Judged input statuses.ReadFault = ⊥
+Judged input statuses.WriteFault = ⊥
+Judged input statuses.OutOfMemory = ⊥
+
+-- the status that the input alone asks for
+abbrev pub Expected : Command → List ℕ → Status → Type 0
+Expected DrillCommand input status = status ≡ expected (drill_of input)
+Expected Audit input status = Judged input status
+
 -- without a fault, an input that isn't too long is answered by its text alone, unless memory runs out
 abbrev pub IsComplete : List (List ℕ) → FromSource → FromSink → Status → Type 0
-IsComplete words s k result = drill_words words ≡ true → (Rises s.faults s.faults_new → ⊥) → (Rises k.faults k.faults_new → ⊥) → (input : List ℕ) → s.left ≡ Some input → length input ≤ limit
-    → (result ≡ expected (drill_of input)) ⊎ (result ≡ statuses.OutOfMemory)
+IsComplete words s k result = (c : Command) → command_of words ≡ Some c → (Rises s.faults s.faults_new → ⊥) → (Rises k.faults k.faults_new → ⊥) → (input : List ℕ) → s.left ≡ Some input → length input ≤ limit
+    → Expected c input result ⊎ (result ≡ statuses.OutOfMemory)

@@ -1,8 +1,14 @@
-use Rattle.std.specs.Prelude.{ℕ, List, [], ◌∷◌, codes, Bool, false}
+use Rattle.std.specs.Prelude.{ℕ, List, [], ◌∷◌, codes, Option, Some, None, if◌then◌else◌}
 use Rattle.std.specs.Str.{bytes_eq}
+use Rattle.sw_top.specs.declared.words.Command.{Command}
+use Rattle.sw_top.specs.declared.words.Command.TheVariants.{Drill, Audit}
 
--- whether the words are the one word drill
-abbrev pub drill_words : List (List ℕ) → Bool
-drill_words [] = false
-drill_words (w ∷ []) = bytes_eq w (codes "drill")
-drill_words (w ∷ v ∷ ws) = false
+-- the command of this name
+abbrev pub named : List ℕ → Option Command
+named word = if bytes_eq word (codes "drill") then Some Drill else if bytes_eq word (codes "audit") then Some Audit else None
+
+-- the command that the words name: they are its name alone
+abbrev pub command_of : List (List ℕ) → Option Command
+command_of [] = None
+command_of (w ∷ []) = named w
+command_of (w ∷ v ∷ ws) = None

@@ -2,10 +2,13 @@
 
 ghost use Rattle.std.specs.Prelude.{◌≡◌, ◌++◌, List, codes, IfOk, OnOk, string_bytes};
 ghost use Rattle.std.specs.Fmt.{decimal};
+ghost use Rattle.sw_audit.specs.declared.verdict.Verdict.TheVariants as verdicts;
+ghost use Rattle.sw_audit.specs.Printing.{verdict_text};
 ghost use Rattle.sw_top.specs.Refusals.{key_text, reason_text, settings_text, line_text, refusal_text, refusal_status};
 
 use crate::status::Status;
 use std::alloc::Global;
+use sw_audit::{Verdict, print};
 use sw_data::{Octets, OutOfMemory};
 use sw_settings::SettingsFault;
 use sw_text::{put_hex, put_number};
@@ -17,6 +20,8 @@ pub enum Refusal {
     Line(u64),
     /// The settings have this fault.
     Settings(SettingsFault),
+    /// This is the least bad place of a trace.
+    Place(u64),
 }
 
 fn put_key(out: &mut Octets, word: &str, key: &[u8]) -> Result<(), OutOfMemory>
@@ -99,6 +104,13 @@ fn line_text(alloc: Global, number: u64) -> Result<Octets, OutOfMemory>
     Ok(out)
 }
 
+fn place_text(alloc: Global, at: u64) -> Result<Octets, OutOfMemory>
+    ensures { IfOk result (λ text. text ≡ verdict_text (verdicts.No at)) }
+{
+    let text = print(alloc, Verdict::No(at))?;
+    Ok(Octets::of(text.into_bytes()))
+}
+
 impl Refusal {
     /// The line that is written.
     pub fn text(&self, alloc: Global) -> Result<Octets, OutOfMemory>
@@ -107,6 +119,7 @@ impl Refusal {
         match self {
             Refusal::Line(number) => line_text(alloc, *number),
             Refusal::Settings(fault) => settings_text(alloc, fault),
+            Refusal::Place(at) => place_text(alloc, *at),
         }
     }
 
@@ -117,6 +130,7 @@ impl Refusal {
         match self {
             Refusal::Line(number) => Status::BadLine(number),
             Refusal::Settings(fault) => Status::Settings(fault),
+            Refusal::Place(at) => Status::No(at),
         }
     }
 }

@@ -14,6 +14,9 @@ pub enum Status {
     Settings(SettingsFault),
     /// More than 67,108,864 bytes came.
     InputLong,
+    /// The trace's least place that is missing, doubled, has another reply than the Table's definition gives, or stands behind
+    /// a greater place of the same caller.
+    No(u64),
     /// The words name no command.
     Usage,
     /// A read of the source failed.
@@ -34,6 +37,7 @@ impl Status {
             Status::BadLine(_) => 1,
             Status::Settings(_) => 1,
             Status::InputLong => 1,
+            Status::No(_) => 1,
             Status::Usage => 2,
             Status::ReadFault => 3,
             Status::WriteFault => 4,

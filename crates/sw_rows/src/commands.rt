@@ -1,10 +1,10 @@
 // Whole runs of the command: each status with the exact text that is written.
 
-use super::*;
 use std::alloc::Global;
 use std::test::Fail;
 use sw_causes::{MemorySink, MemorySource, ReadGot, Source, SureSource};
 use sw_settings::SettingsFault;
+use sw_top::{Status, Word, tool};
 
 const FIRST: &str = "set open_eof_split true
 set package_eof x0d0a
@@ -36,7 +36,11 @@ fn words_of(alloc: Global, texts: &[&str]) -> Result<Vec<Word>, Fail> {
 
 /// The status and the text of a drill whose sources and sinks don't fail.
 fn drill(alloc: Global, input: &str) -> Result<(Status, Vec<u8>), Fail> {
-    let words = words_of(alloc, &["drill"])?;
+    run(alloc, "drill", input)
+}
+
+fn run(alloc: Global, command: &str, input: &str) -> Result<(Status, Vec<u8>), Fail> {
+    let words = words_of(alloc, &[command])?;
     let mut source = SureSource::new(Vec::from_slice(alloc, input.as_bytes())?);
     let mut sink = MemorySink::new(alloc, Vec::new(alloc));
     let status = tool(alloc, &words, &mut source, &mut sink);
@@ -138,6 +142,40 @@ fn refused_settings(rt: HostRuntime) -> Result<(), Fail> {
         let (status, text) = drill(rt.alloc(), input)?;
         assert!(rt; matches!(status, Status::Settings(_)), "at {input}");
         let want = format!(in rt.alloc(); "fault settings {reason}\n")?;
+        assert_eq!(rt; text.as_slice(), want.as_bytes(), "at {input}");
+    }
+    Ok(())
+}
+
+#[test]
+fn audits(rt: HostRuntime) -> Result<(), Fail> {
+    let inputs = [
+        ("table 64 0 n:int:8", 0, "ok 0\n"),
+        (
+            "table 64 0 n:int:8\n1 0 get 61 > row 1\n0 0 incr 61 n 1 > value 1\n",
+            1,
+            "no 0\n",
+        ),
+        (
+            "table 64 0 n:int:8\n1 1 get 61 > row 1\n0 0 incr 61 n 1 > value 1\n",
+            0,
+            "ok 2\n",
+        ),
+        (
+            "table 64 0 n:int:8\n0 0 incr 61 n 1 > value 2\n",
+            1,
+            "no 0\n",
+        ),
+        ("", 1, "fault line 1\n"),
+        (
+            "table 64 0 n:int:8\n0 0 incr 61 q 1 > value 1\n",
+            1,
+            "fault line 2\n",
+        ),
+    ];
+    for (input, number, want) in inputs {
+        let (status, text) = run(rt.alloc(), "audit", input)?;
+        assert_eq!(rt; status.number(), number, "at {input}");
         assert_eq!(rt; text.as_slice(), want.as_bytes(), "at {input}");
     }
     Ok(())
@@ -266,6 +304,7 @@ fn numbers(rt: HostRuntime) {
         (Status::BadLine(7), 1),
         (Status::Settings(SettingsFault::OutOfMemory), 1),
         (Status::InputLong, 1),
+        (Status::No(7), 1),
         (Status::Usage, 2),
         (Status::ReadFault, 3),
         (Status::WriteFault, 4),

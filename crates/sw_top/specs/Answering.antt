@@ -1,0 +1,23 @@
+-- What an input is answered under each command.
+use Rattle.std.specs.Prelude.{◌≡◌, ℕ, List, Result, Ok, Err}
+use Rattle.sw_audit.specs.declared.verdict.Verdict.TheVariants as verdicts
+use Rattle.sw_audit.specs.declared.verdict.AuditFault.TheVariants as faults
+use Rattle.sw_audit.specs.Verdicts.{IsAudit}
+use Rattle.sw_audit.specs.Printing.{verdict_text}
+use Rattle.sw_top.specs.declared.words.Command.{Command}
+use Rattle.sw_top.specs.declared.words.Command.TheVariants.{Drill, Audit}
+use Rattle.sw_top.specs.declared.refusal.Refusal.{Refusal}
+use Rattle.sw_top.specs.declared.refusal.Refusal.TheVariants.{Line, Settings, Place}
+use Rattle.sw_top.specs.Run.{answer_of}
+
+-- a trace is answered by its verdict, and refused for its first line out of the grammar or for its least bad place
+abbrev pub AnswersTrace : List ℕ → Result (List ℕ) Refusal → Type 0
+AnswersTrace input (Ok text) = (n : ℕ) × IsAudit input (Ok (verdicts.Ok n)) × (text ≡ verdict_text (verdicts.Ok n))
+AnswersTrace input (Err (Line n)) = IsAudit input (Err (faults.BadLine n))
+AnswersTrace input (Err (Settings fault)) = ⊥
+AnswersTrace input (Err (Place at)) = IsAudit input (Ok (verdicts.No at))
+
+-- what is written for an input under a command, or why it is refused
+abbrev pub Answers : Command → List ℕ → Result (List ℕ) Refusal → Type 0
+Answers Drill input r = answer_of input ≡ r
+Answers Audit input r = AnswersTrace input r
