@@ -177,4 +177,4 @@ module _ {S : Type 0} where
       → Allows (Kept max) slots id me j (λ n. either (eqb n 0) new n) (λ r n. (n ≡ (after_claim me.0 (me.0.drawn + 1) r, me.1)) × ((me.0.drawn + 1) % me.0.max ≡ i) × MetIn me.0.claimed me.0.max i r)
   claims max slots id me i j new is lt whole is_clerk no_pass no_calls next slot =
       subst (λ (k : ℕ). Allows (Kept max) slots id me j (λ n. either (eqb n 0) new n) (λ r n. (n ≡ (after_claim me.0 k r, me.1)) × (k % me.0.max ≡ i) × MetIn me.0.claimed me.0.max i r)) next
-          (tried_number max slots id me i j new is lt whole is_clerk no_pass no_calls (omega (arith, next)) slot)
+      (tried_number max slots id me i j new is lt whole is_clerk no_pass no_calls (omega (arith, next)) slot)
