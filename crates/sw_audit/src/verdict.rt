@@ -1,3 +1,4 @@
+// What an audit answers.
 use sw_data::OutOfMemory;
 
 /// What a trace comes to.

@@ -1,3 +1,4 @@
+// The word that a call begins with.
 ghost use Rattle.std.specs.Prelude.{◌≡◌};
 ghost use Rattle.sw_call.specs.Calls.{call_on};
 

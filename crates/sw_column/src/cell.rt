@@ -1,3 +1,4 @@
+//! One place of a row's buffer.
 ghost use Rattle.std.specs.Prelude.{◌≡◌, IfOk};
 ghost use Rattle.sw_column.specs.Cells.{blank_cell, with_int, with_text, blanked};
 

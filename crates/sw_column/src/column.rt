@@ -1,3 +1,4 @@
+//! A column, and why one is refused.
 ghost use Rattle.std.specs.Prelude.{◌≡◌};
 ghost use Rattle.std.specs.List.{list_all};
 ghost use Rattle.sw_column.specs.Columns.{is_name, is_name_byte, is_size, width};

@@ -1,3 +1,4 @@
+//! Whether a call fits the columns.
 ghost use Rattle.std.specs.Prelude.{◌≡◌, IfSome, None, Some, IsTrue, MatchResult};
 ghost use Rattle.std.specs.Option.{option_copied};
 ghost use Rattle.sw_column.specs.Columns.{is_size, column_of};

@@ -1,3 +1,4 @@
+//! The hash of a key, which tells its bucket.
 ghost use Rattle.std.specs.Prelude.{◌≡◌};
 ghost use Rattle.sw_column.specs.Hash.{hash};
 

@@ -1,3 +1,4 @@
+//! A row's buffer, made once for all rows of a schema.
 ghost use Rattle.std.specs.Prelude.{◌≡◌, ◌<◌, ◌≤◌, Some, IsTrue, length, slice_get, slice_set, IfOk};
 ghost use Rattle.sw_data.specs.declared.table.Value.TheVariants as values;
 ghost use Rattle.sw_column.specs.Cells.{cell_value, is_int, is_text};

@@ -1,3 +1,4 @@
+//! The columns of a Table, in order.
 ghost use Rattle.std.specs.Prelude.{◌≡◌, ◌<◌, ◌≤◌, ◌++◌, ◌∷◌, [], IsTrue, Some, None, length, IfSome, IfErr, IfOk, OnOk, OnErr, slice_get};
 ghost use Rattle.sw_column.specs.Columns.{place, column_fault, kind_fault, size_fault, row_width, is_size, IsRefusal, IsSchema};
 

@@ -1,3 +1,4 @@
+//! The columns' edges.
 use crate::{Cell, ColumnFault, Kind, RowBuf, Schema, fits, hash};
 use std::test::Fail;
 use sw_data::{Call, CallFault, Key, Name, Pairs, Value};

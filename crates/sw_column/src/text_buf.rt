@@ -1,3 +1,4 @@
+//! Room for one text of a row.
 ghost use Rattle.std.specs.Prelude.{◌≡◌, ◌≤◌, [], take, length, IfOk};
 
 use std::alloc::Global;

@@ -1,3 +1,4 @@
+//! The words of live sessions, as actors reach them.
 ghost use Rattle.std.specs.Prelude.{◌≡◌, ◌≢◌, ◌%◌, ℕ};
 ghost use Rattle.sw_ports.specs.declared.word.Word.{Word};
 ghost use Rattle.sw_ports.specs.Answers.{Looks, Binds, Keeps};

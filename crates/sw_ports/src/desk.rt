@@ -1,3 +1,4 @@
+//! Where the door draws the numbers of sessions.
 ghost use Rattle.std.specs.Prelude.{◌≡◌, ℕ, List, ◌++◌, Result};
 ghost use Rattle.sw_ports.specs.declared.answers.ClaimFault.{ClaimFault};
 ghost use Rattle.sw_ports.specs.Claims.{Claims, answer_of, numbers_of};

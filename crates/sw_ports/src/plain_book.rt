@@ -1,3 +1,4 @@
+//! The session words of one thread.
 ghost use Rattle.std.specs.Prelude.{◌≡◌, ◌≢◌, ◌≤◌, ◌<◌, ◌+◌, ◌%◌, ◌↔◌, [], length, replicate, IfOk, IsTrue, MatchOption};
 ghost use Rattle.sw_ports.specs.Plain.{Words, free, word_of, with_word, bound, plain_claim, taken, Stands, LiveAmong, Meets};
 

@@ -1,3 +1,4 @@
+//! What a link has of the plain session words.
 ghost use Rattle.std.specs.Prelude.{◌≡◌};
 
 use crate::ticketed::Ticketed;

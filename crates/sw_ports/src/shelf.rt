@@ -1,3 +1,4 @@
+//! The shared Table, as workers reach it.
 ghost use Rattle.std.specs.Prelude.{◌≡◌, List, Result};
 ghost use Rattle.sw_data.specs.declared.table.Value.{Value};
 ghost use Rattle.sw_data.specs.declared.table.Call.{Call};

@@ -1,3 +1,4 @@
+//! What every ticket tells.
 ghost use Rattle.std.specs.Prelude.{◌≡◌, ℕ};
 
 use sw_data::Session;

@@ -1,3 +1,4 @@
+// A key with what it is set to.
 use sw_data::Octets;
 
 /// What a key is set to, as it was read.

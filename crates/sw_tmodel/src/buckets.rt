@@ -1,3 +1,4 @@
+//! How many rows each bucket has, and whether the pool has room.
 ghost use Rattle.std.specs.Prelude.{◌≡◌, ◌+◌, ◌-◌, ◌<◌, ◌≤◌, ◌||◌, nat_eq, nat_lt, true, length, replicate, slice_index, slice_set, IfOk};
 ghost use Rattle.sw_tmodel.specs.Store.{pooled};
 

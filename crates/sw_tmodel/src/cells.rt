@@ -1,3 +1,4 @@
+//! Writes into the places of one row.
 ghost use Rattle.std.specs.Prelude.{◌≡◌, ◌≤◌, ◌<◌, None, map, length, slice_get, slice_set};
 ghost use Rattle.sw_data.specs.declared.table.Value.TheVariants as values;
 ghost use Rattle.sw_column.specs.Columns.{column_of};

@@ -1,3 +1,4 @@
+//! The plain Table: each call is the definition's step at the next place.
 ghost use Rattle.std.specs.Prelude.{◌≡◌, ◌<◌, ◌≤◌, ◌*◌, nat_lt, if◌then◌else◌, IfOk};
 ghost use Rattle.std.specs.FinMap as map;
 ghost use Rattle.sw_column.specs.Values.{HasKinds};

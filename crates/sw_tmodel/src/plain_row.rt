@@ -1,3 +1,4 @@
+//! One row with its key, and the list of rows with the spare ones behind those in use.
 ghost use Rattle.std.specs.Prelude.{◌≡◌, ◌+◌, ◌≤◌, ◌<◌, ◌++◌, ◌∷◌, [], None, Some, All, map, take, List, ◌-◌, length, vec_len, remove, slice_get, IfOk, IfSome, IfNone};
 ghost use Rattle.std.specs.Ordering.{nat_cmp};
 ghost use Rattle.std.specs.Cmp.Lexicographic.{slice_cmp};

@@ -1,3 +1,4 @@
+//! Rows and counts together: what a call reads and writes.
 ghost use Rattle.std.specs.Prelude.{◌≡◌, ◌+◌, ◌<◌, ◌≤◌, ◌++◌, ◌∷◌, [], None, Some, true, length, remove, slice_get, IfOk, IfSome, IfNone};
 ghost use Rattle.std.specs.FinMap as map;
 ghost use Rattle.sw_column.specs.Columns.{column_of};

@@ -1,3 +1,4 @@
+//! Short runs of calls; longer ones are traces of `audit`.
 ghost use Rattle.std.specs.Prelude.{◌≡◌};
 ghost use Rattle.sw_column.specs.Values.{HasKinds};
 
