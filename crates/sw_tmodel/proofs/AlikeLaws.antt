@@ -1,4 +1,4 @@
-use Rattle.std.proofs.Common.{◌≡◌, ℕ, zero, suc, ◌+◌, Bool, true, false, cond, ◌&&◌, ◌||◌, not, List, Option, Some, None, refl, ap, sym, ◌∙◌, subst, arith, eq-eqb, true≢false}
+use Rattle.std.proofs.Common.{◌≡◌, ℕ, zero, suc, Bool, true, false, cond, ◌&&◌, ◌||◌, not, List, Option, Some, None, refl, ap, sym, ◌∙◌, subst, arith, eq-eqb}
 use Rattle.std.proofs.lemmas.Bool.Decides.{nat_tests}
 use Rattle.std.specs.Prelude.{nat_eq, nat_lt, ℤ, ◌+ℤ◌, ◌-ℤ◌, unwrap_or, is_some}
 use Rattle.std.specs.FinMap as map
@@ -6,13 +6,12 @@ use Rattle.sw_data.specs.declared.table.Value.{Value}
 use Rattle.sw_data.specs.declared.table.Value.TheVariants as values
 use Rattle.sw_data.specs.declared.table.Call.{Call}
 use Rattle.sw_data.specs.declared.table.Call.TheVariants.{Set, Get, Exist, Del, Incr, Decr, Count}
-use Rattle.sw_data.specs.declared.table.Reply.{Reply}
 use Rattle.sw_data.specs.declared.table.Reply.TheVariants.{Yes, No}
 use Rattle.sw_column.specs.Fit.{fits}
 use Rattle.sw_column.specs.Values.{blank}
 use Rattle.sw_tmodel.specs.Rows.{with_value, with_pairs, number_of, size_of}
 use Rattle.sw_tmodel.specs.Table.{State, Shape, Step, bucket, part, used, may_write, row_of, set_step, get_step, del_step, add_step, add, TStep, write_needs_pool, needs_pool}
-use Rattle.sw_tmodel.specs.Laws.{key_of, LookAlike, AnswerAlike, BucketDecides}
+use Rattle.sw_tmodel.specs.Laws.{key_of, BucketDecides}
 use Rattle.sw_tmodel.proofs.Maps.{get_own, part_inserted, part_removed}
 use Rattle.sw_tmodel.proofs.BucketLaws.{count_follows}
 

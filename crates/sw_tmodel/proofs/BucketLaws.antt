@@ -1,20 +1,17 @@
-use Rattle.std.proofs.Common.{◌≡◌, ◌≢◌, ℕ, zero, suc, ◌+◌, ◌-◌, ◌<◌, ◌≤◌, Bool, true, false, cond, ◌&&◌, ◌||◌, not, List, [], ◌∷◌, Option, Some, None, refl, ap, sym, ◌∙◌, subst, arith, eq-eqb, true≢false}
+use Rattle.std.proofs.Common.{◌≡◌, ℕ, zero, suc, ◌+◌, ◌-◌, ◌<◌, ◌≤◌, Bool, true, false, cond, ◌&&◌, ◌||◌, not, List, [], ◌∷◌, Option, Some, None, refl, ap, sym, ◌∙◌, subst, arith, eq-eqb}
 use Rattle.std.proofs.lemmas.Bool.Decides.{nat_tests}
 use Rattle.std.proofs.Math.Nat.{mod-lt}
-use Rattle.std.specs.Prelude.{nat_eq, nat_lt, nat_le, ℤ, ◌+ℤ◌, ◌-ℤ◌, is_some}
+use Rattle.std.specs.Prelude.{nat_eq, nat_lt, nat_le, ℤ, is_some}
 use Rattle.std.specs.Cmp.Lexicographic.{nat_list_cmp_total}
 use Rattle.std.specs.FinMap as map
 use Rattle.std.specs.FinMap.{len-empty, len-insert, len-remove}
 use Rattle.std.specs.Ordering.{nat_cmp}
 use Rattle.std.specs.Cmp.Lexicographic.{slice_cmp}
 use Rattle.sw_data.specs.declared.table.Value.{Value}
-use Rattle.sw_data.specs.declared.table.Value.TheVariants as values
 use Rattle.sw_data.specs.declared.table.Call.{Call}
 use Rattle.sw_data.specs.declared.table.Call.TheVariants.{Set, Get, Exist, Del, Incr, Decr, Count}
 use Rattle.sw_column.specs.Hash.{hash}
-use Rattle.sw_column.specs.Fit.{fits}
-use Rattle.sw_tmodel.specs.Rows.{with_value, with_pairs, number_of, size_of}
-use Rattle.sw_tmodel.specs.Table.{State, Shape, Entry, bucket, part, sum_below, used, may_write, row_of, set_step, get_step, del_step, add_step, add, TStep, write_needs_pool, del_needs_pool, needs_pool, left_by, after}
+use Rattle.sw_tmodel.specs.Table.{State, Shape, Entry, bucket, part, sum_below, used, may_write, set_step, get_step, del_step, add_step, TStep, write_needs_pool, del_needs_pool, needs_pool, left_by, after}
 use Rattle.sw_tmodel.specs.Laws.{key_of, CountFollows, PoolFollows, PoolStays, RowsBounded}
 use Rattle.sw_tmodel.proofs.Maps.{get_own, part_inserted, part_removed}
 use Rattle.sw_tmodel.proofs.Sums.{sum_change, sum_zero, sum_less_one}

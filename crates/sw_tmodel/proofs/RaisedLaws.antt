@@ -1,8 +1,8 @@
-use Rattle.std.proofs.Common.{◌≡◌, ℕ, zero, suc, ◌+◌, ◌*◌, ◌^◌, ◌<◌, ◌≤◌, ◌⊎◌, inl, inr, Bool, true, false, cond, refl, ap, sym, ◌∙◌, arith, pow-suc}
+use Rattle.std.proofs.Common.{◌≡◌, ℕ, zero, suc, ◌*◌, ◌^◌, ◌<◌, ◌≤◌, ◌⊎◌, inl, inr, Bool, true, false, cond, refl, arith, pow-suc}
 use Rattle.std.proofs.lemmas.Bool.Decides.{nat_tests}
 use Rattle.std.specs.Prelude.{nat_lt}
-use Rattle.sw_tmodel.specs.Plain.{raised_by, raised}
-use Rattle.sw_tmodel.specs.Laws.{IsRaised, SizeIsRaised}
+use Rattle.sw_tmodel.specs.Plain.{raised_by}
+use Rattle.sw_tmodel.specs.Laws.{SizeIsRaised}
 
 -- a size doubled k times from 64, as long as it is below n
 record Grown (n k p : ℕ) : Type 0 where

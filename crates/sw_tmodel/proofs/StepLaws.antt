@@ -1,20 +1,13 @@
-use Rattle.std.proofs.Common.{◌≡◌, ◌≢◌, ℕ, ◌+◌, ◌-◌, ◌<◌, ◌≤◌, Bool, true, false, cond, ◌||◌, List, Option, Some, None, refl, ap, sym, ◌∙◌, subst, arith, eq-eqb, true≢false}
+use Rattle.std.proofs.Common.{◌≡◌, ◌≢◌, ℕ, ◌<◌, ◌≤◌, Bool, true, false, cond, ◌||◌, List, Option, Some, None, refl, ap, sym, ◌∙◌, arith, true≢false}
 use Rattle.std.proofs.lemmas.Bool.Decides.{nat_tests}
-use Rattle.std.specs.Prelude.{nat_eq, nat_lt, ℤ, ◌+ℤ◌, ◌-ℤ◌, unwrap_or, is_some}
-use Rattle.std.specs.Cmp.Lexicographic.{nat_list_cmp_total}
+use Rattle.std.specs.Prelude.{nat_eq, nat_lt, ℤ, is_some}
 use Rattle.std.specs.FinMap as map
-use Rattle.std.specs.FinMap.{len-insert, len-remove}
 use Rattle.sw_data.specs.declared.table.Value.{Value}
-use Rattle.sw_data.specs.declared.table.Value.TheVariants as values
-use Rattle.sw_data.specs.declared.table.Call.{Call}
 use Rattle.sw_data.specs.declared.table.Call.TheVariants.{Set, Get, Exist, Del, Incr, Decr, Count}
 use Rattle.sw_data.specs.declared.table.Reply.TheVariants.{Full, Yes, No}
-use Rattle.sw_column.specs.Fit.{fits}
-use Rattle.sw_column.specs.Values.{blank}
-use Rattle.sw_tmodel.specs.Rows.{with_value, with_pairs, number_of, size_of}
-use Rattle.sw_tmodel.specs.Table.{State, Shape, bucket, part, used, may_write, row_of, set_step, get_step, del_step, add_step, add, TStep}
-use Rattle.sw_tmodel.specs.Laws.{KeepsOthers, FullIsFull, LookAlike, AnswerAlike, BucketDecides, CountCounts, OtherBuckets}
-use Rattle.sw_tmodel.proofs.Maps.{get_other, removed_other, get_own, part_inserted, part_beside, part_removed, part_left}
+use Rattle.sw_tmodel.specs.Table.{State, Shape, bucket, part, used, may_write, set_step, get_step, del_step, add_step}
+use Rattle.sw_tmodel.specs.Laws.{KeepsOthers, FullIsFull, CountCounts, OtherBuckets}
+use Rattle.sw_tmodel.proofs.Maps.{get_other, removed_other, part_beside, part_left}
 
 -- ---- no other key is changed
 
