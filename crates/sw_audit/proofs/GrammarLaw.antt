@@ -3,7 +3,7 @@ use Rattle.std.proofs.lemmas.List.{append-nil}
 use Rattle.sw_column.specs.declared.column.Column.{Column}
 use Rattle.std.proofs.Common.{subst, ◌≡◌, ℕ, ◌+◌, List, [], ◌∷◌, ◌++◌, length, Option, Some, None, Result, Ok, Err, refl, ap, sym, ◌∙◌, inl, inr, arith, append_assoc}
 use Rattle.sw_text.specs.Parts.{lines_of}
-use Rattle.sw_audit.specs.Grammar.{table_text, without_lines, head_of, line_of, with_line, line_read, lines_read, numbered, lines_trace, trace_of}
+use Rattle.sw_audit.specs.Grammar.{table_text, without_lines, head_of, line_of, with_line, lines_read, numbered, lines_trace, trace_of}
 use Rattle.sw_audit.specs.Reading.{AreRead, AreTrace, IsRead}
 use Rattle.sw_audit.specs.declared.trace.Trace.{Trace}
 use Rattle.sw_audit.specs.declared.trace.TraceLine.{TraceLine}

@@ -1,18 +1,18 @@
-use Rattle.std.proofs.Common.{◌≡◌, ℕ, zero, suc, ◌+◌, ◌<◌, ◌≤◌, Bool, true, false, cond, eqb, List, [], ◌∷◌, ◌++◌, length, get_or, drop, map, Option, Some, None, refl, ap, sym, ◌∙◌, subst, inl, inr, ⊎_elim, arith, add-one, length-drop, eq-eqb, MatchBool}
-use Rattle.std.specs.Prelude.{slice_get, filter, Contains, All, nat_eq, ◌⊎◌}
+use Rattle.std.proofs.Common.{◌≡◌, ℕ, zero, suc, ◌+◌, ◌<◌, ◌≤◌, Bool, true, false, eqb, List, [], ◌∷◌, ◌++◌, length, get_or, drop, map, Some, None, refl, ap, sym, ◌∙◌, subst, inl, inr, ⊎_elim, arith, add-one, length-drop, eq-eqb, MatchBool}
+use Rattle.std.specs.Prelude.{slice_get, Contains}
 use Rattle.std.specs.Bool.{OnTrue}
 use Rattle.std.specs.List.{AllByRecursion}
 use Rattle.sw_column.specs.declared.column.Column.{Column}
 use Rattle.std.specs.List.Sorted.{IsNonDecreasingBy, IsPermutation}
 use Rattle.std.specs.FinMap as map_of
-use Rattle.std.proofs.lemmas.Bool.{eqb-true, eqb-false, ne_eqb, cases_lt}
+use Rattle.std.proofs.lemmas.Bool.{ne_eqb, cases_lt}
 use Rattle.std.proofs.lemmas.List.{at_drop_more, drop_all, get_or-drop, get_or_default}
 use Rattle.std.proofs.lemmas.List.Elements.{recursion_from_All}
 use Rattle.std.proofs.lemmas.List.Sorted.{Contains-permutation}
 use Rattle.std.proofs.lemmas.Option.{slice_get-get_or, slice_get_past, slice_get_cases}
-use Rattle.sw_tmodel.specs.Table.{Shape, State, Step, Entry, TStep, left_by, after}
+use Rattle.sw_tmodel.specs.Table.{Shape, State, Entry, TStep, left_by, after}
 use Rattle.sw_tmodel.specs.Plain.{PlainTable, shape_of, pool_of}
-use Rattle.sw_audit.specs.Verdicts.{entry_of, lines_at, calls_below, IsMissing, IsDoubled, IsOther, IsWrong, Tells}
+use Rattle.sw_audit.specs.Verdicts.{entry_of, lines_at, calls_below, IsMissing, IsDoubled, IsWrong, Tells}
 use Rattle.sw_audit.specs.Judging.{HasPlace, IsReached, IsSameTable}
 use Rattle.sw_audit.specs.declared.trace.TraceLine.{TraceLine}
 

@@ -1,4 +1,4 @@
-use Rattle.std.specs.Prelude.{◌≡◌, ℕ, ◌+◌, List, [], ◌∷◌, ◌++◌, length, Option, Some, None, Result, Ok, Err, ◌⊎◌}
+use Rattle.std.specs.Prelude.{◌≡◌, ℕ, ◌+◌, List, [], ◌∷◌, ◌++◌, length, Some, None, Result, Ok, Err, ◌⊎◌}
 use Rattle.sw_text.specs.Parts.{lines_of}
 use Rattle.sw_column.specs.declared.column.Column.{Column}
 use Rattle.sw_audit.specs.Grammar.{head_of, line_of}

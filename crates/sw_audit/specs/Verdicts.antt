@@ -1,6 +1,5 @@
 use Rattle.std.specs.Prelude.{◌≡◌, ℕ, zero, suc, ◌<◌, List, [], ◌++◌, length, map, filter, Contains, slice_get, Some, Result, Ok, Err, nat_eq, ◌⊎◌}
-use Rattle.sw_text.specs.Parts.{lines_of}
-use Rattle.sw_tmodel.specs.Table.{Shape, State, Step, Entry, TStep, after}
+use Rattle.sw_tmodel.specs.Table.{Shape, Step, Entry, TStep, after}
 use Rattle.sw_tmodel.specs.Plain.{raised, pool_of}
 use Rattle.sw_audit.specs.declared.trace.Trace.{Trace}
 use Rattle.sw_audit.specs.declared.trace.TraceLine.{TraceLine}

@@ -1,4 +1,4 @@
-use Rattle.std.proofs.Common.{◌≡◌, ℕ, Bool, true, false, cond, List, [], ◌∷◌, ◌++◌, Option, Some, None, refl, ap, sym, ◌∙◌, eqb, subst}
+use Rattle.std.proofs.Common.{◌≡◌, ℕ, Bool, true, false, cond, List, [], ◌∷◌, ◌++◌, Option, Some, None, refl, ap, eqb}
 use Rattle.sw_text.specs.Parts.{cut_at, onto, onto_first}
 use Rattle.sw_call.specs.Pieces.{pieces_of, pieces_behind, with_next, items_read}
 

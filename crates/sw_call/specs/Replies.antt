@@ -1,9 +1,8 @@
-use Rattle.std.specs.Prelude.{ℕ, List, [], ◌∷◌, codes, Option, Some, None, if◌then◌else◌}
+use Rattle.std.specs.Prelude.{ℕ, List, [], codes, Option, Some, None, if◌then◌else◌}
 use Rattle.std.specs.Str.{bytes_eq}
 use Rattle.sw_text.specs.Then.{◌>>=◌}
 use Rattle.sw_text.specs.Numbers.{number_of, signed_of}
 use Rattle.sw_text.specs.Parts.{cut_at}
-use Rattle.sw_data.specs.declared.table.Value.{Value}
 use Rattle.sw_data.specs.declared.table.Reply.{Reply}
 use Rattle.sw_data.specs.declared.table.Reply.TheVariants as replies
 use Rattle.sw_call.specs.declared.answer.Replied.{Replied}

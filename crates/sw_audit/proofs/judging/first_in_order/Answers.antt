@@ -1,4 +1,4 @@
-use Rattle.std.proofs.Common.{List, ◌∙◌, refl, subst, arith, length}
+use Rattle.std.proofs.Common.{List, ◌∙◌, refl, subst, arith}
 use Rattle.sw_column.specs.declared.column.Column.{Column}
 use Rattle.sw_column.specs.Values.{HasKinds}
 use Rattle.sw_tmodel.specs.Table.{Shape}

@@ -1,4 +1,4 @@
-use Rattle.std.proofs.Common.{◌≡◌, ℕ, ◌<◌, ◌≤◌, length}
+use Rattle.std.proofs.Common.{ℕ, ◌<◌}
 use Rattle.sw_column.specs.Values.{HasKinds}
 use Rattle.sw_tmodel.specs.Plain.{shape_of}
 use Rattle.sw_audit.specs.Judging.{IsReached, IsSameTable}

@@ -1,4 +1,4 @@
-use Rattle.std.proofs.Common.{ℕ, Option, None, Some, sym, ap, subst, length}
+use Rattle.std.proofs.Common.{ℕ, Option, None, sym, ap, subst, length}
 use Rattle.sw_audit.specs.Verdicts.{IsBad}
 use Rattle.sw_audit.specs.Judging.{IsLeast}
 use Rattle.sw_audit.proofs.VerdictLaws.{least_bad}

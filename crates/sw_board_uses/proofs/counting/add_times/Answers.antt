@@ -1,4 +1,4 @@
-use Rattle.std.proofs.Common.{◌≡◌, ◌+◌, sym, ap, ◌∙◌, arith}
+use Rattle.std.proofs.Common.{◌≡◌, ◌+◌, ap, ◌∙◌, arith}
 use Rattle.sw_data.specs.declared.events.Counter.TheVariants.{Packets}
 use Rattle.sw_ports.specs.Board.{added}
 use Rattle.sw_board.specs.Values.{SeatNow}

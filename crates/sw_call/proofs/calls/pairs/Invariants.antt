@@ -1,4 +1,4 @@
-use Rattle.std.proofs.Common.{◌≡◌, Some, [], length}
+use Rattle.std.proofs.Common.{◌≡◌, Some, length}
 use Rattle.sw_call.specs.Pieces.{pieces_of, items_read, items_in}
 use Rattle.sw_call.specs.Calls.{pair_of}
 use Rattle.sw_call.proofs.calls.pairs.Given as goal

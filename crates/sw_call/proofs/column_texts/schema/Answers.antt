@@ -1,4 +1,4 @@
-use Rattle.std.proofs.Common.{◌≡◌, ◌∷◌, [], ◌++◌, Some, None, Ok, Err, ap, ◌∙◌, rules}
+use Rattle.std.proofs.Common.{◌≡◌, ◌∷◌, [], ◌++◌, Some, None, Err, ap, ◌∙◌}
 use Rattle.sw_column.specs.Columns.{column_fault}
 use Rattle.sw_call.specs.Columns.{schema_of}
 use Rattle.sw_call.proofs.SchemaSteps.{column_joins, column_refused, columns_done, refused_by}
