@@ -13,6 +13,3 @@ pub use pairs::Pairs;
 pub use printing::print;
 pub use reading::{read, reading_is_exact};
 pub use schedule::{Drill, Line, Lines};
-
-#[cfg(test)]
-mod tests;

@@ -1,9 +1,11 @@
 // Whole runs of the command: each status with its text, and schedules against records that were written out by hand from what
-// the server promises.
+// the server promises. The texts of drills and of records stand here too, since a crate with tests is proved twice.
 #![tactic(auto)]
 
 #[cfg(test)]
 mod commands;
+#[cfg(test)]
+mod drill_texts;
 #[cfg(test)]
 mod end_of_link;
 #[cfg(test)]

@@ -1,4 +1,4 @@
-use Rattle.std.proofs.Common.{◌≡◌, ℕ, ◌≤◌, false, true≢false, List, ◌++◌, codes, length, Option, Some, None, Result, Ok, Err, refl, ap, sym, subst, ◌∙◌, inl, inr, arith, length-append}
+use Rattle.std.proofs.Common.{◌≡◌, ℕ, ◌≤◌, false, true≢false, List, ◌++◌, length, Option, Some, None, Result, Ok, Err, refl, ap, sym, subst, ◌∙◌, inl, inr, arith, length-append}
 use Rattle.std.proofs.lemmas.List.{append-nil}
 use Rattle.std.specs.Io.KnownBytes.{Consumes, IsAtEnd}
 use Rattle.sw_drill.specs.declared.schedule.Drill.{Drill}
@@ -7,13 +7,9 @@ use Rattle.sw_settings.specs.declared.faults.SettingsFault.{SettingsFault}
 use Rattle.sw_settings.specs.Faults.{IsRefusal, fault_of}
 use Rattle.sw_top.specs.declared.refusal.Refusal.{Refusal}
 use Rattle.sw_top.specs.declared.refusal.Refusal.TheVariants.{Line, Settings, Place}
-use Rattle.sw_audit.specs.declared.verdict.Verdict.{Verdict}
-use Rattle.sw_audit.specs.declared.verdict.Verdict.TheVariants as verdicts
-use Rattle.sw_audit.specs.Printing.{verdict_text}
-use Rattle.sw_audit.specs.Verdicts.{IsAudit}
 use Rattle.sw_top.specs.declared.words.Command.{Command}
 use Rattle.sw_top.specs.declared.words.Command.TheVariants.{Drill as DrillCommand, Audit}
-use Rattle.sw_top.specs.Answering.{AnswersTrace, Answers}
+use Rattle.sw_top.specs.Answering.{Answers}
 use Rattle.sw_top.specs.Refusals.{is_memory, refusal_text, refusal_status}
 use Rattle.sw_top.specs.Run.{played_or, answered}
 use Rattle.sw_top.specs.Words.{command_of}

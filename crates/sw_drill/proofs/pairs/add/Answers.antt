@@ -1,4 +1,4 @@
-use Rattle.std.proofs.Common.{◌≡◌, ◌++◌, [], ◌∷◌, true, false, not, sym, ap, ◌∙◌}
+use Rattle.std.proofs.Common.{◌≡◌, ◌++◌, [], ◌∷◌, not, sym, ap, ◌∙◌}
 use Rattle.sw_settings.specs.declared.pair.Pair.{Pair}
 use Rattle.sw_drill.specs.Pairs.{has_name}
 use Rattle.sw_drill.proofs.NameLaw.{names_more, names_has, taken, new_pair}
