@@ -1,5 +1,5 @@
 //! As many threads as there are senders.
-ghost use Rattle.std.specs.Prelude.{◌≡◌, IfOk, All};
+ghost use Rattle.std.specs.Prelude.{◌≡◌, IfOk, All, length};
 
 use std::alloc::{AllocFailed, Global};
 use std::snapshot::Snapshot;
@@ -90,7 +90,7 @@ fn start<R: Threads + Wait + Copy + Send + 'static>(
     }
 }
 
-/// Starts a thread for each sender, which pushes `count` items. A thread that finds the pipe full `limit` times ends.
+/// Starts one thread for each sender, which pushes `count` items. A thread that finds the pipe full `limit` times ends.
 pub fn start_all<R: Threads + Wait + Copy + Send + 'static>(
     rt: R,
     alloc: Global,
@@ -100,7 +100,8 @@ pub fn start_all<R: Threads + Wait + Copy + Send + 'static>(
     limit: u64,
 ) -> Result<Vec<Pushing>, OutOfMemory>
     requires { All (λ s. s.pipe ≡ taker.now.pipe) senders.items }
-    ensures { IfOk result (λ hs. All (λ h. h.promise.taker.value.pipe ≡ taker.now.pipe) hs.items) }
+    ensures of_pipe { IfOk result (λ hs. All (λ h. h.promise.taker.value.pipe ≡ taker.now.pipe) hs.items) }
+    ensures count { IfOk result (λ hs. length hs.items ≡ length senders.items) }
 {
     let mut handles = Vec::new(alloc);
     while let Some(sender) = senders.pop() {
@@ -111,14 +112,15 @@ pub fn start_all<R: Threads + Wait + Copy + Send + 'static>(
     Ok(handles)
 }
 
-/// Joins the threads. All senders come back, and each is of the taker's pipe.
+/// Joins the threads. As many senders come back as there were threads, and each is of the taker's pipe.
 pub fn collect<R: Threads>(
     rt: &R,
     taker: &Taker<Item>,
     handles: Vec<Pushing>,
 ) -> Result<Vec<Sender<Item>>, OutOfMemory>
     requires { All (λ h. h.promise.taker.value.pipe ≡ taker.now.pipe) handles.items }
-    ensures { IfOk result (λ ss. All (λ s. s.pipe ≡ taker.now.pipe) ss.items) }
+    ensures of_pipe { IfOk result (λ ss. All (λ s. s.pipe ≡ taker.now.pipe) ss.items) }
+    ensures count { IfOk result (λ ss. length ss.items ≡ length handles.items) }
 {
     match join_promised(rt, handles) {
         Ok(senders) => Ok(senders),
