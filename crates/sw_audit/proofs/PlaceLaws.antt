@@ -10,8 +10,9 @@ use Rattle.std.proofs.lemmas.List.{at_drop_more, drop_all, get_or-drop, get_or_d
 use Rattle.std.proofs.lemmas.List.Elements.{recursion_from_All}
 use Rattle.std.proofs.lemmas.List.Sorted.{Contains-permutation}
 use Rattle.std.proofs.lemmas.Option.{slice_get-get_or, slice_get_past, slice_get_cases}
-use Rattle.sw_tmodel.specs.Table.{Shape, State, Entry, TStep, left_by, after}
-use Rattle.sw_tmodel.specs.Plain.{PlainTable, shape_of, pool_of}
+use Rattle.sw_table_laws.specs.Table.{Shape, State, Entry, TStep, left_by, after}
+use Rattle.sw_tmodel.specs.Plain.{PlainTable, shape_of}
+use Rattle.sw_table_laws.specs.Sizes.{pool_of}
 use Rattle.sw_audit.specs.Verdicts.{entry_of, lines_at, calls_below, IsMissing, IsDoubled, IsWrong, Tells}
 use Rattle.sw_audit.specs.Judging.{HasPlace, IsReached, IsSameTable}
 use Rattle.sw_audit.specs.declared.trace.TraceLine.{TraceLine}

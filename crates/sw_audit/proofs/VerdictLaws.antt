@@ -1,7 +1,7 @@
 use Rattle.std.proofs.Common.{◌≡◌, ℕ, List, Option, sym, subst}
 use Rattle.std.specs.List.Sorted.{IsPermutation}
 use Rattle.std.proofs.lemmas.List.Sorted.{IsPermutation-sym}
-use Rattle.sw_tmodel.specs.Table.{Shape}
+use Rattle.sw_table_laws.specs.Table.{Shape}
 use Rattle.sw_audit.specs.Judging.{IsLeast, lesser}
 use Rattle.sw_audit.specs.Verdicts.{lines_at, table_of, IsWrong, IsLate, IsBad}
 use Rattle.sw_audit.specs.declared.trace.Trace.{Trace}

@@ -5,7 +5,7 @@ use Rattle.sw_data.specs.declared.table.Value.{Value}
 use Rattle.sw_data.specs.declared.table.Value.TheVariants as values
 use Rattle.sw_data.specs.declared.table.Reply.{Reply}
 use Rattle.sw_data.specs.declared.table.Reply.TheVariants as replies
-use Rattle.sw_tmodel.specs.Table.{after}
+use Rattle.sw_table_laws.specs.Table.{after}
 use Rattle.sw_tmodel.specs.Plain.{PlainTable, shape_of}
 use Rattle.sw_audit.specs.Verdicts.{lines_at, calls_below}
 use Rattle.sw_call.specs.declared.answer.Replied.{Replied}

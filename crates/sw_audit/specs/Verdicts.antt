@@ -1,6 +1,6 @@
 use Rattle.std.specs.Prelude.{◌≡◌, ℕ, zero, suc, ◌<◌, List, [], ◌++◌, length, map, filter, Contains, slice_get, Some, Result, Ok, Err, nat_eq, ◌⊎◌}
-use Rattle.sw_tmodel.specs.Table.{Shape, Step, Entry, TStep, after}
-use Rattle.sw_tmodel.specs.Plain.{raised, pool_of}
+use Rattle.sw_table_laws.specs.Table.{Shape, Step, Entry, TStep, after}
+use Rattle.sw_table_laws.specs.Sizes.{raised, pool_of}
 use Rattle.sw_audit.specs.declared.trace.Trace.{Trace}
 use Rattle.sw_audit.specs.declared.trace.TraceLine.{TraceLine}
 use Rattle.sw_audit.specs.declared.verdict.Verdict.{Verdict}

@@ -5,7 +5,7 @@ ghost use Rattle.sw_column.specs.Cells.{cell_value};
 ghost use Rattle.sw_column.specs.Fit.{call_fault};
 ghost use Rattle.sw_column.specs.Values.{HasKinds};
 ghost use Rattle.sw_tmodel.specs.Plain.{shape_of};
-ghost use Rattle.sw_tmodel.specs.Table.{TStep};
+ghost use Rattle.sw_table_laws.specs.Table.{TStep};
 ghost use Rattle.sw_audit.specs.Judging.{is_same, shown_by, HasReply};
 ghost use Rattle.sw_audit.specs.Verdicts.{Tells};
 

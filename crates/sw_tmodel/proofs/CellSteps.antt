@@ -17,9 +17,9 @@ use Rattle.sw_column.specs.Fit.{value_fault, at_column, or_else, pairs_fault}
 use Rattle.sw_column.specs.Values.{is_of_kind, HasKinds, blank, blank_value}
 use Rattle.sw_column.specs.Room.{Room}
 use Rattle.sw_column.specs.Cells.{cell_value, blank_cell, blanked, is_int, is_text}
-use Rattle.sw_tmodel.specs.Rows.{cut_at_size, size_in, written_at, with_value, with_pairs, number_in, number_at, number_of}
+use Rattle.sw_table_laws.specs.Rows.{cut_at_size, size_in, written_at, with_value, with_pairs, number_in, number_at, number_of}
 use Rattle.sw_tmodel.specs.PlainRows.{is_cell, AreCells, IsPlaceFor, cell_with}
-use Rattle.sw_tmodel.proofs.RowLaws.{place_within, column_there}
+use Rattle.sw_table_laws.proofs.RowLaws.{place_within, column_there}
 
 no : {X : Type 0} → IsTrue false → X
 no h = absurd (true≢false (sym h))

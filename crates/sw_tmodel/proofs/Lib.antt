@@ -1,13 +1,5 @@
-pub mod Maps
-pub mod Sums
-pub mod StepLaws
-pub mod RowLaws
-pub mod KeptRows
 pub mod CellSteps
 pub mod RowSteps
 pub mod StoreSteps
 pub mod StoredLaws
 pub mod PlaceLaws
-pub mod BucketLaws
-pub mod AlikeLaws
-pub mod RaisedLaws

@@ -8,7 +8,7 @@ use Rattle.std.specs.Str.{bytes_eq}
 use Rattle.sw_data.specs.declared.table.Value.{Value}
 use Rattle.sw_tmodel.specs.PlainRows.{key_at, row_at}
 use Rattle.sw_tmodel.specs.Store.{Distinct, state_of}
-use Rattle.sw_tmodel.proofs.Maps.{eq_of, eq_self, apart, same_state, get_inserted, get_removed}
+use Rattle.sw_table_laws.proofs.Maps.{eq_of, eq_self, apart, same_state, get_inserted, get_removed}
 
 abbrev pub Entry : Type 0
 Entry = List ℕ × List Value

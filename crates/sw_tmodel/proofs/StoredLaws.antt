@@ -11,10 +11,11 @@ use Rattle.std.proofs.lemmas.List.{take_all, length-replicate, get_or-replicate}
 use Rattle.std.proofs.lemmas.Bool.Decides.{nat_tests}
 use Rattle.sw_data.specs.declared.table.Value.{Value}
 use Rattle.sw_column.specs.declared.column.Column.{Column}
-use Rattle.sw_tmodel.specs.Table.{State, bucket, part, used, sum_below, has_room}
+use Rattle.sw_table_laws.specs.Table.{State, bucket, part, used, sum_below, has_room}
 use Rattle.sw_tmodel.specs.PlainRows.{IsAt, key_at, row_at, with_row}
 use Rattle.sw_tmodel.specs.Store.{Distinct, Stored, pooled, state_of, IsStored}
-use Rattle.sw_tmodel.proofs.Maps.{same_state, get_own, get_part, part_inserted, part_beside, part_removed, part_left}
+use Rattle.sw_table_laws.proofs.Maps.{same_state, get_own, get_part, part_inserted, part_beside, part_removed, part_left}
+use Rattle.sw_table_laws.proofs.Lengths.{not_empty, no_len}
 use Rattle.sw_tmodel.proofs.StoreSteps.{Entry, found, put, put_distinct, taken_out, remove_distinct, pushed, push_distinct, get_listed, there, place_of}
 
 -- ---- sums of counts
@@ -117,13 +118,6 @@ stored_pushed es room counts pool k v d lt miss =
 
 -- ---- a row taken out
 
-pub not_empty : (m : State) (k : List ℕ) (v : List Value) (n : ℕ) → map.len m ≡ n → map.get m k ≡ Some v → 0 < n
-not_empty m k v zero e is = absurd (clash (sym (get-empty (slice_cmp nat_cmp) k) ∙ ap (λ (x : State). map.get x k) (sym (empty_of_len m e)) ∙ is))
-  where
-    clash : {A : Type 0} {x : A} → None ≡ Some x → ⊥
-    clash e = cc
-not_empty m k v (suc n) e is = omega arith
-
 pub counted_some : (es : List Entry) (room : ℕ) (counts : List ℕ) (pool at : ℕ) (k : List ℕ) → IsStored es room counts pool → bucket (length counts) k < length counts → at < length es → key_at es at ≡ k → 0 < get_or counts (bucket (length counts) k) 0
 counted_some es room counts pool at k d lt alt is =
     let b : ℕ = bucket (length counts) k in
@@ -204,19 +198,6 @@ pub state_removed : (es : List Entry) (room : ℕ) (counts : List ℕ) (pool at 
 state_removed es room counts pool at k d alt is = taken_out es at k (row_at es at) d.distinct (there es at alt ∙ ap (λ (x : List ℕ). Some (x, row_at es at)) is)
 
 -- ---- no rows
-
-abbrev nothing : State
-nothing = map.empty
-
-both_none : (t : Bool) (o : Option (List Value)) → o ≡ None → cond t o None ≡ None
-both_none true o e = e
-both_none false o e = refl
-
-no_rows : (size b : ℕ) (q : List ℕ) → map.get (part size nothing b) q ≡ map.get nothing q
-no_rows size b q = get_part size nothing b q ∙ both_none (nat_eq (bucket size q) b) (map.get nothing q) (get-empty (slice_cmp nat_cmp) q) ∙ sym (get-empty (slice_cmp nat_cmp) q)
-
-pub no_len : (size b : ℕ) → map.len (part size nothing b) ≡ 0
-no_len size b = ap map.len (same_state (part size nothing b) nothing (no_rows size b)) ∙ len-empty (slice_cmp nat_cmp) (List Value)
 
 pub stored_none : (size pool room : ℕ) (counts : List ℕ) (es : List Entry) → 0 < size → es ≡ [] → counts ≡ replicate size 0 → room ≡ size + pool → IsStored es room counts pool
 stored_none size pool room counts es some none made places =

@@ -5,7 +5,7 @@ ghost use Rattle.sw_column.specs.Columns.{column_of};
 ghost use Rattle.sw_column.specs.Cells.{cell_value, blanked};
 ghost use Rattle.sw_column.specs.Fit.{pairs_fault, at_column};
 ghost use Rattle.sw_column.specs.Values.{HasKinds, blank};
-ghost use Rattle.sw_tmodel.specs.Rows.{with_pairs, with_value, number_of, number_in};
+ghost use Rattle.sw_table_laws.specs.Rows.{with_pairs, with_value, number_of, number_in};
 ghost use Rattle.sw_tmodel.specs.PlainRows.{AreCells, IsPlaceFor, cell_with};
 ghost use Rattle.std.specs.Prelude.{Some};
 

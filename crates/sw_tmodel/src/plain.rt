@@ -2,7 +2,8 @@
 ghost use Rattle.std.specs.Prelude.{◌≡◌, ◌<◌, ◌≤◌, ◌*◌, nat_lt, if◌then◌else◌, IfOk};
 ghost use Rattle.std.specs.FinMap as map;
 ghost use Rattle.sw_column.specs.Values.{HasKinds};
-ghost use Rattle.sw_tmodel.specs.Plain.{IsCall, raised, raised_by};
+ghost use Rattle.sw_table_laws.specs.Sizes.{raised, raised_by};
+ghost use Rattle.sw_tmodel.specs.Plain.{IsCall};
 
 use crate::steps::step;
 use crate::store::Store;
@@ -32,7 +33,7 @@ impl Model for Plain {
     ghost coded = { Prim.hlevel (codes, code) };
 
     ghost use Rattle.std.specs.Prelude.{◌≡◌, ◌≤◌};
-    ghost use Rattle.sw_tmodel.specs.Plain.{pool_of};
+    ghost use Rattle.sw_table_laws.specs.Sizes.{pool_of};
     ghost use Rattle.sw_tmodel.specs.Store.{state_of};
 
     ghost view = { λ a. record { columns = a.store.shape.columns; size = a.store.shape.size; percent = a.percent; last_call = a.last_call; calls = a.calls; state = state_of a.store.entries } };

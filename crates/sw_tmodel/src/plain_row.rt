@@ -7,7 +7,7 @@ ghost use Rattle.sw_column.specs.declared.column.Column.{Column};
 ghost use Rattle.sw_column.specs.Columns.{column_of};
 ghost use Rattle.sw_column.specs.Fit.{pairs_fault, at_column};
 ghost use Rattle.sw_column.specs.Values.{blank, HasKinds};
-ghost use Rattle.sw_tmodel.specs.Rows.{with_pairs, with_value, number_of};
+ghost use Rattle.sw_table_laws.specs.Rows.{with_pairs, with_value, number_of};
 ghost use Rattle.sw_tmodel.specs.PlainRows.{AreCells, IsShaped, IsAt, entry_of};
 
 use crate::cells::{clear, number, put_pair, put_pairs, show};

@@ -7,7 +7,7 @@ ghost use Rattle.sw_data.specs.declared.table.Value.TheVariants as values;
 ghost use Rattle.sw_column.specs.Columns.{column_of};
 ghost use Rattle.sw_column.specs.Fit.{pairs_fault, at_column};
 ghost use Rattle.sw_column.specs.Values.{blank, HasKinds};
-ghost use Rattle.sw_tmodel.specs.Rows.{with_pairs, with_value, number_of};
+ghost use Rattle.sw_table_laws.specs.Rows.{with_pairs, with_value, number_of};
 ghost use Rattle.sw_tmodel.specs.PlainRows.{IsAt, row_at, with_row};
 
 use crate::plain_row::{PlainRow, find_row, move_behind, spare_rows};

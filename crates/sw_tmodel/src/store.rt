@@ -4,8 +4,8 @@ ghost use Rattle.std.specs.FinMap as map;
 ghost use Rattle.sw_column.specs.Columns.{column_of};
 ghost use Rattle.sw_column.specs.Fit.{pairs_fault, at_column};
 ghost use Rattle.sw_column.specs.Values.{blank, HasKinds};
-ghost use Rattle.sw_tmodel.specs.Rows.{with_pairs, with_value, number_of};
-ghost use Rattle.sw_tmodel.specs.Table.{bucket, has_room};
+ghost use Rattle.sw_table_laws.specs.Rows.{with_pairs, with_value, number_of};
+ghost use Rattle.sw_table_laws.specs.Table.{bucket, has_room};
 ghost use Rattle.sw_tmodel.specs.PlainRows.{IsAt, key_at, row_at, with_row};
 ghost use Rattle.sw_tmodel.specs.Store.{state_of};
 

@@ -1,6 +1,6 @@
 use Rattle.std.proofs.Common.{ap}
 use Rattle.sw_ports.specs.declared.shelf.Placed.{Placed}
-use Rattle.sw_tmodel.specs.Table.{TStep}
+use Rattle.sw_table_laws.specs.Table.{TStep}
 use Rattle.sw_tmodel.specs.Plain.{shape_of}
 use Rattle.sw_audit.proofs.ValueLaws.{told_by, step_shown}
 use Rattle.sw_audit.proofs.answers.is_told.Goals as goal

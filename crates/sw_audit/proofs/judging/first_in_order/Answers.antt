@@ -1,7 +1,7 @@
 use Rattle.std.proofs.Common.{List, ◌∙◌, refl, subst, arith}
 use Rattle.sw_column.specs.declared.column.Column.{Column}
 use Rattle.sw_column.specs.Values.{HasKinds}
-use Rattle.sw_tmodel.specs.Table.{Shape}
+use Rattle.sw_table_laws.specs.Table.{Shape}
 use Rattle.sw_tmodel.specs.Plain.{shape_of}
 use Rattle.sw_audit.specs.Verdicts.{IsWrong}
 use Rattle.sw_audit.proofs.PlaceLaws.{reached_none, right_next, all_right, same_shape}

@@ -1,6 +1,6 @@
 use Rattle.std.proofs.Common.{map}
 use Rattle.sw_column.specs.Cells.{cell_value}
-use Rattle.sw_tmodel.specs.Rows.{with_pairs}
+use Rattle.sw_table_laws.specs.Rows.{with_pairs}
 use Rattle.sw_tmodel.proofs.CellSteps.{pairs_fit, pairs_step, pairs_end}
 use Rattle.sw_tmodel.proofs.cells.put_pairs.Goals as goal
 

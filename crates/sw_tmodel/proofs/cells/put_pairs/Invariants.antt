@@ -1,7 +1,7 @@
 use Rattle.std.proofs.Common.{◌≡◌, map, drop, None}
 use Rattle.sw_column.specs.Cells.{cell_value}
 use Rattle.sw_column.specs.Fit.{pairs_fault}
-use Rattle.sw_tmodel.specs.Rows.{with_pairs}
+use Rattle.sw_table_laws.specs.Rows.{with_pairs}
 use Rattle.sw_tmodel.specs.PlainRows.{AreCells}
 use Rattle.sw_tmodel.proofs.cells.put_pairs.Given as goal
 

@@ -1,5 +1,5 @@
 use Rattle.std.proofs.Common.{◌≡◌, ◌≤◌}
-use Rattle.sw_tmodel.specs.Plain.{raised_by}
+use Rattle.sw_table_laws.specs.Sizes.{raised_by}
 use Rattle.sw_tmodel.proofs.plain.raised.Given as goal
 
 -- doubled as often as the loop has run, and never far beyond the size

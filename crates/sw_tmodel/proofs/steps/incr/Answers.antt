@@ -2,9 +2,9 @@ use Rattle.std.proofs.Common.{◌≡◌, ap, sym, subst, arith, FitsSigned, to_z
 use Rattle.std.proofs.lemmas.Int.{ints}
 use Rattle.std.specs.Prelude.{◌+ℤ◌}
 use Rattle.sw_column.specs.Columns.{IsSchema}
-use Rattle.sw_tmodel.specs.Table.{Step}
+use Rattle.sw_table_laws.specs.Table.{Step}
 use Rattle.sw_tmodel.specs.Store.{state_of}
-use Rattle.sw_tmodel.proofs.PlaceLaws.{out_of_range}
+use Rattle.sw_table_laws.proofs.Numbers.{out_of_range}
 use Rattle.sw_tmodel.proofs.steps.incr.Goals as goal
 
 pub returns-in-None-clause-reply : goal.returns-in-None-clause-reply

@@ -1,6 +1,6 @@
 use Rattle.std.proofs.Common.{List, ap, ◌∙◌}
 use Rattle.sw_column.specs.declared.column.Column.{Column}
-use Rattle.sw_tmodel.specs.Rows.{with_value}
+use Rattle.sw_table_laws.specs.Rows.{with_value}
 use Rattle.sw_tmodel.specs.PlainRows.{RowList, row_at, with_row}
 use Rattle.sw_tmodel.proofs.RowSteps.{place_shown, row_changed}
 use Rattle.sw_tmodel.proofs.rows.Rows.put_pair.Goals as goal

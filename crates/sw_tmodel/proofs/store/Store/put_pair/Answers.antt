@@ -1,6 +1,6 @@
 use Rattle.std.proofs.Common.{◌<◌, length, ap, sym, subst, ◌∙◌}
 use Rattle.std.specs.FinMap as map
-use Rattle.sw_tmodel.specs.Rows.{with_value}
+use Rattle.sw_table_laws.specs.Rows.{with_value}
 use Rattle.sw_tmodel.specs.PlainRows.{RowList, key_at, row_at}
 use Rattle.sw_tmodel.specs.Store.{Stored, IsStored, state_of}
 use Rattle.sw_tmodel.proofs.StoredLaws.{stored_put, state_put}

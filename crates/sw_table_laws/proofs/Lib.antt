@@ -1,0 +1,10 @@
+pub mod Maps
+pub mod Sums
+pub mod Lengths
+pub mod StepLaws
+pub mod RowLaws
+pub mod KeptRows
+pub mod BucketLaws
+pub mod AlikeLaws
+pub mod RaisedLaws
+pub mod Numbers

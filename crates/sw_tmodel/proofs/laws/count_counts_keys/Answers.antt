@@ -1,5 +1,0 @@
-use Rattle.sw_tmodel.proofs.StepLaws.{count_counts as law}
-use Rattle.sw_tmodel.proofs.laws.count_counts_keys.Goals as goal
-
-pub returns : goal.returns
-returns c = law

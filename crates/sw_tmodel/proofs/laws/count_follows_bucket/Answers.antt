@@ -1,5 +1,0 @@
-use Rattle.sw_tmodel.proofs.BucketLaws.{count_follows as law}
-use Rattle.sw_tmodel.proofs.laws.count_follows_bucket.Goals as goal
-
-pub returns : goal.returns
-returns c = law

@@ -1,5 +1,0 @@
-use Rattle.sw_tmodel.proofs.StepLaws.{other_buckets as law}
-use Rattle.sw_tmodel.proofs.laws.other_buckets_stay.Goals as goal
-
-pub returns : goal.returns
-returns c = law

@@ -1,5 +1,0 @@
-use Rattle.sw_tmodel.proofs.StepLaws.{keeps_others as law}
-use Rattle.sw_tmodel.proofs.laws.other_keys_stay.Goals as goal
-
-pub returns : goal.returns
-returns c = law

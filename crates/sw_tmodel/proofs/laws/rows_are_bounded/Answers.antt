@@ -1,5 +1,0 @@
-use Rattle.sw_tmodel.proofs.BucketLaws.{rows_bounded as law}
-use Rattle.sw_tmodel.proofs.laws.rows_are_bounded.Goals as goal
-
-pub returns : goal.returns
-returns c = law

@@ -1,5 +1,0 @@
-use Rattle.sw_tmodel.proofs.KeptRows.{keeps_rows as law}
-use Rattle.sw_tmodel.proofs.laws.rows_keep_their_shape.Goals as goal
-
-pub returns : goal.returns
-returns c = law

@@ -1,5 +1,0 @@
-use Rattle.sw_tmodel.proofs.KeptRows.{set_then_incr as law}
-use Rattle.sw_tmodel.proofs.laws.set_then_incr_adds.Goals as goal
-
-pub returns : goal.returns
-returns c = law
