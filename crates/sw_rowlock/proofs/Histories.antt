@@ -4,7 +4,7 @@ use Rattle.std.proofs.lemmas.List.Elements.{All-append, All-replicate}
 use mathlib.Core.Option.{some, some-injective, some-ne-none}
 use lib.ListN.{get_elem?}
 use Rattle.sw_rowlock.specs.Rule.{total}
-use Rattle.sw_rowlock.specs.History.{below, calls, others, owns, Begins, times_drawn, merged, draws_from, draws_of, placed_from, DrewAll, after}
+use Rattle.sw_rowlock.specs.History.{below, calls, others, owns, Begins, Each, times_drawn, merged, draws_from, draws_of, placed_from, DrewAll, after}
 
 -- 1 where p is n
 abbrev pub here : ℕ → ℕ → ℕ
@@ -73,6 +73,10 @@ below_one zero (suc n) = omega arith
 below_one (suc p) (suc n) = below_one p n
 
 module _ {Q : Type 0} where
+  pub each_more : (P : Q → Type 0) (qs : List Q) (q : Q) → Each P qs → P q → Each P (qs ++ q ∷ [])
+  each_more P [] q e p = (p, tt)
+  each_more P (x ∷ qs) q e p = (e.0, each_more P qs q e.1 p)
+
   pub mark_others : (p : ℕ) (qs : List Q) → times_drawn p (others qs) ≡ 0
   mark_others p [] = refl
   mark_others zero (q ∷ qs) = refl

@@ -13,7 +13,7 @@ use Rattle.sw_rowlock.specs.declared.calls.Contents.{Contents}
 use Rattle.sw_rowlock.specs.declared.calls.Slot.{Slot}
 use Rattle.sw_rowlock.specs.declared.calls.Slot.TheVariants.{Row, Pool, Empty}
 use Rattle.sw_rowlock.specs.declared.view.View.{View}
-use Rattle.sw_rowlock.specs.History.{calls, others, times_drawn, draws_of}
+use Rattle.sw_rowlock.specs.History.{calls, others, Each, times_drawn, draws_of}
 use Rattle.sw_rowlock.specs.Rule.{word_at, In, Places, Without, knows, refused, Locked, Takes, TookOne, Looks, Looked, Draws, DrewOne, Touches}
 use Rattle.sw_rowlock.specs.Calls.{Done, Counts, counted, contents, cells, count_of, done, effect, left_by, changes_of, counted_all}
 use Rattle.sw_rowlock.specs.Seats.{all_parts, LocksNow, SeatNow, IsSeatOf, row_in, pool_in, row_part, pool_part, held_of, empties, row_first, pool_last, RowNear, seat_of, Carries, IsSeat, HoldsRow, HoldsPool, bucket_held, row_left, pool_left, done_on, row_then, pool_then, held_then}
@@ -187,48 +187,48 @@ module _ {B P : Type 0} where
   held_more n (Some r) x = refl
 
 -- taking and giving
-module _ {B P Q R : Type 0} (row : Q → Option ℕ) (needs : Q → Option B → Bool) (does : Q → Option B → Option P → ℕ → Done B P R) where
+module _ {B P Q R : Type 0} (may : Contents B P → Q → Type 0) (row : Q → Option ℕ) (needs : Q → Option B → Bool) (does : Q → Option B → Option P → ℕ → Done B P R) where
   abbrev pub Rules : Contents B P → State (Slot B P) (View (Slot B P) Q (Contents B P)) → Type 0
-  Rules start = Locked (effect row needs does) cells count_of all_parts (suc (length start.rows)) start
+  Rules start = Locked (effect row needs does) cells count_of may all_parts (suc (length start.rows)) start
 
   -- the lock b at its word w
   pub takes_at : (start : Contents B P) (slots id w b : ℕ) (me : Mine B P Q) (place : ℕ → Slot B P → List (ℕ × Slot B P) → List (ℕ × Slot B P)) → w ≡ b * 8 → b < suc (length start.rows) → 0 < me.0.parts → Places b me.0.held (place b)
-      → Allows (Rules start) slots id me w (λ n. either (eqb n 0) 1 n) (Takes (effect row needs does) cells count_of all_parts (w / 8) (place (w / 8)) me)
+      → Allows (Rules start) slots id me w (λ n. either (eqb n 0) 1 n) (Takes (effect row needs does) cells count_of may all_parts (w / 8) (place (w / 8)) me)
   takes_at start slots id w b me place e near part pl =
       let back : b * 8 / 8 ≡ b = omega arith in
-      subst (λ (z : ℕ). Allows (Rules start) slots id me z (λ n. either (eqb n 0) 1 n) (Takes (effect row needs does) cells count_of all_parts (z / 8) (place (z / 8)) me)) (sym e)
-      (subst (λ (z : ℕ). Allows (Rules start) slots id me (b * 8) (λ n. either (eqb n 0) 1 n) (Takes (effect row needs does) cells count_of all_parts z (place z) me)) (sym back)
-      (takes_lock (effect row needs does) cells count_of all_parts (suc (length start.rows)) start slots id b me (place b) near part pl))
+      subst (λ (z : ℕ). Allows (Rules start) slots id me z (λ n. either (eqb n 0) 1 n) (Takes (effect row needs does) cells count_of may all_parts (z / 8) (place (z / 8)) me)) (sym e)
+      (subst (λ (z : ℕ). Allows (Rules start) slots id me (b * 8) (λ n. either (eqb n 0) 1 n) (Takes (effect row needs does) cells count_of may all_parts z (place z) me)) (sym back)
+      (takes_lock (effect row needs does) cells count_of may all_parts (suc (length start.rows)) start slots id b me (place b) near part pl))
 
   pub at_lock : (w b r : ℕ) (m n : Mine B P Q) (place : ℕ → Slot B P → List (ℕ × Slot B P) → List (ℕ × Slot B P)) → w ≡ b * 8
-      → Takes (effect row needs does) cells count_of all_parts (w / 8) (place (w / 8)) m r n → Takes (effect row needs does) cells count_of all_parts b (place b) m r n
+      → Takes (effect row needs does) cells count_of may all_parts (w / 8) (place (w / 8)) m r n → Takes (effect row needs does) cells count_of may all_parts b (place b) m r n
   at_lock w b r m n place e t =
-      let back : w / 8 ≡ b = omega (arith, e) in subst (λ (z : ℕ). Takes (effect row needs does) cells count_of all_parts z (place z) m r n) back t
+      let back : w / 8 ≡ b = omega (arith, e) in subst (λ (z : ℕ). Takes (effect row needs does) cells count_of may all_parts z (place z) m r n) back t
 
   -- what was found in a row
   found_row : (start : Contents B P) (b : ℕ) (p p1 : Place B P Q) → b < length start.rows
-      → (k : TookOne (effect row needs does) cells count_of all_parts b (row_first b) start p.me p1.me)
-      → (x : B) × (k.value ≡ Row x) × RowLeft row needs does start (seat_of p) b x
+      → (k : TookOne (effect row needs does) cells count_of may all_parts b (row_first b) start p.me p1.me)
+      → (x : B) × (k.value ≡ Row x) × RowLeft may row needs does start (seat_of p) b x
   found_row start b p p1 near k =
       let t = left_by row needs does start k.so_far in
       let l : length t.rows ≡ length start.rows = length_after row needs does start k.so_far in
       let f = row_of_cell t.rows t.pool b (omega (arith, l, near)) in
-      (f.0, some-injective k.value (Row f.0) (sym k.left ∙ f.2), record { so_far = k.so_far; begins = k.begins; value = f.1; whole = λ all. let w = k.whole all in drew_whole p.me.0.seen k.so_far w.0 w.1 })
+      (f.0, some-injective k.value (Row f.0) (sym k.left ∙ f.2), record { so_far = k.so_far; allowed = k.allowed; begins = k.begins; value = f.1; whole = λ all. let w = k.whole all in drew_whole p.me.0.seen k.so_far w.0 w.1 })
 
   found_pool : (start : Contents B P) (p p1 : Place B P Q)
-      → (k : TookOne (effect row needs does) cells count_of all_parts (length start.rows) (pool_last (length start.rows)) start p.me p1.me)
-      → (x : P) × (k.value ≡ Pool x) × PoolLeft row needs does start (seat_of p) x
+      → (k : TookOne (effect row needs does) cells count_of may all_parts (length start.rows) (pool_last (length start.rows)) start p.me p1.me)
+      → (x : P) × (k.value ≡ Pool x) × PoolLeft may row needs does start (seat_of p) x
   found_pool start p p1 k =
       let t = left_by row needs does start k.so_far in
       let l : length t.rows ≡ length start.rows = length_after row needs does start k.so_far in
       let f = pool_cell t.rows t.pool in
-      (t.pool, some-injective k.value (Pool t.pool) (sym k.left ∙ ap (λ (z : ℕ). get_elem? (cells t) z) (sym l) ∙ f), record { so_far = k.so_far; begins = k.begins; value = refl; whole = λ all. let w = k.whole all in drew_whole p.me.0.seen k.so_far w.0 w.1 })
+      (t.pool, some-injective k.value (Pool t.pool) (sym k.left ∙ ap (λ (z : ℕ). get_elem? (cells t) z) (sym l) ∙ f), record { so_far = k.so_far; allowed = k.allowed; begins = k.begins; value = refl; whole = λ all. let w = k.whole all in drew_whole p.me.0.seen k.so_far w.0 w.1 })
 
   -- a row was taken, and its value moved out
   pub took_row : (id : TableId) (start : Contents B P) (b : ℕ) (p p1 p2 : Place B P Q) (out : Slot B P) → b < length start.rows → Sits id start p → row_at p ≡ None
-      → p1.table_id ≡ p.table_id → TookOne (effect row needs does) cells count_of all_parts b (row_first b) start p.me p1.me
+      → p1.table_id ≡ p.table_id → TookOne (effect row needs does) cells count_of may all_parts b (row_first b) start p.me p1.me
       → p2.table_id ≡ p1.table_id → p1.me.1 ≡ (b, out) ∷ rest p1.me.1 → p2.me ≡ (p1.me.0, (b, Empty) ∷ rest p1.me.1)
-      → (x : B) × (out ≡ Row x) × Sits id start p2 × (seat_of p2 ≡ record (seat_of p) { row = Some (b, x) }) × RowLeft row needs does start (seat_of p) b x
+      → (x : B) × (out ≡ Row x) × Sits id start p2 × (seat_of p2 ≡ record (seat_of p) { row = Some (b, x) }) × RowLeft may row needs does start (seat_of p) b x
   took_row id start b p p1 p2 out near s free of1 k of2 was now =
       let n = length start.rows in
       let f = found_row start b p p1 near k in
@@ -243,23 +243,23 @@ module _ {B P Q R : Type 0} (row : Q → Option ℕ) (needs : Q → Option B →
       (f.0, is ∙ f.1, t.0, t.1, f.2)
 
   pub took_row_as : (id : TableId) (start : Contents B P) (b : ℕ) (p p1 p2 : Place B P Q) (out : Slot B P) (y : B) → out ≡ Row y → b < length start.rows → Sits id start p → row_at p ≡ None
-      → p1.table_id ≡ p.table_id → TookOne (effect row needs does) cells count_of all_parts b (row_first b) start p.me p1.me
+      → p1.table_id ≡ p.table_id → TookOne (effect row needs does) cells count_of may all_parts b (row_first b) start p.me p1.me
       → p2.table_id ≡ p1.table_id → p1.me.1 ≡ (b, out) ∷ rest p1.me.1 → p2.me ≡ (p1.me.0, (b, Empty) ∷ rest p1.me.1)
-      → Sits id start p2 × (seat_of p2 ≡ record (seat_of p) { row = Some (b, y) }) × RowLeft row needs does start (seat_of p) b y
+      → Sits id start p2 × (seat_of p2 ≡ record (seat_of p) { row = Some (b, y) }) × RowLeft may row needs does start (seat_of p) b y
   took_row_as id start b p p1 p2 out y is near s free of1 k of2 was now =
       let t = took_row id start b p p1 p2 out near s free of1 k of2 was now in
       let same : t.0 ≡ y = ap (λ (z : Slot B P). slot_row z y) (sym t.1 ∙ is) in
-      subst (λ (z : B). Sits id start p2 × (seat_of p2 ≡ record (seat_of p) { row = Some (b, z) }) × RowLeft row needs does start (seat_of p) b z) same (t.2, t.3, t.4)
+      subst (λ (z : B). Sits id start p2 × (seat_of p2 ≡ record (seat_of p) { row = Some (b, z) }) × RowLeft may row needs does start (seat_of p) b z) same (t.2, t.3, t.4)
 
   -- the pool was taken, where w is its lock
   pub took_pool : (id : TableId) (start : Contents B P) (w : ℕ) (p p1 p2 p3 : Place B P Q) (out : Slot B P) → w ≡ length start.rows → Sits id start p → pool_at p ≡ None
-      → p1.table_id ≡ p.table_id → TookOne (effect row needs does) cells count_of all_parts w (pool_last w) start p.me p1.me
+      → p1.table_id ≡ p.table_id → TookOne (effect row needs does) cells count_of may all_parts w (pool_last w) start p.me p1.me
       → p2.table_id ≡ p1.table_id → p1.me.1 ≡ (w, out) ∷ rest p1.me.1 → p2.me ≡ (p1.me.0, (w, Empty) ∷ rest p1.me.1)
       → p3.table_id ≡ p2.table_id → p3.me ≡ (p2.me.0, turned p2.me.1)
-      → (x : P) × (out ≡ Pool x) × Sits id start p3 × (seat_of p3 ≡ record (seat_of p) { pool = Some x }) × PoolLeft row needs does start (seat_of p) x
+      → (x : P) × (out ≡ Pool x) × Sits id start p3 × (seat_of p3 ≡ record (seat_of p) { pool = Some x }) × PoolLeft may row needs does start (seat_of p) x
   took_pool id start w p p1 p2 p3 out e s free of1 k' of2 was' now' of3 now3 =
       let n = length start.rows in let r = row_at p in
-      let k : TookOne (effect row needs does) cells count_of all_parts n (pool_last n) start p.me p1.me = subst (λ (z : ℕ). TookOne (effect row needs does) cells count_of all_parts z (pool_last z) start p.me p1.me) e k' in
+      let k : TookOne (effect row needs does) cells count_of may all_parts n (pool_last n) start p.me p1.me = subst (λ (z : ℕ). TookOne (effect row needs does) cells count_of may all_parts z (pool_last z) start p.me p1.me) e k' in
       let was : p1.me.1 ≡ (n, out) ∷ rest p1.me.1 = was' ∙ (λ i. (e i, out) ∷ rest p1.me.1) in
       let now : p2.me ≡ (p1.me.0, (n, Empty) ∷ rest p1.me.1) = now' ∙ (λ i. (p1.me.0, (e i, Empty) ∷ rest p1.me.1)) in
       let f = found_pool start p p1 k in
@@ -276,14 +276,14 @@ module _ {B P Q R : Type 0} (row : Q → Option ℕ) (needs : Q → Option B →
       (f.0, is ∙ f.1, t.0, t.1, f.2)
 
   pub took_pool_as : (id : TableId) (start : Contents B P) (w : ℕ) (p p1 p2 p3 : Place B P Q) (out : Slot B P) (y : P) → out ≡ Pool y → w ≡ length start.rows → Sits id start p → pool_at p ≡ None
-      → p1.table_id ≡ p.table_id → TookOne (effect row needs does) cells count_of all_parts w (pool_last w) start p.me p1.me
+      → p1.table_id ≡ p.table_id → TookOne (effect row needs does) cells count_of may all_parts w (pool_last w) start p.me p1.me
       → p2.table_id ≡ p1.table_id → p1.me.1 ≡ (w, out) ∷ rest p1.me.1 → p2.me ≡ (p1.me.0, (w, Empty) ∷ rest p1.me.1)
       → p3.table_id ≡ p2.table_id → p3.me ≡ (p2.me.0, turned p2.me.1)
-      → Sits id start p3 × (seat_of p3 ≡ record (seat_of p) { pool = Some y }) × PoolLeft row needs does start (seat_of p) y
+      → Sits id start p3 × (seat_of p3 ≡ record (seat_of p) { pool = Some y }) × PoolLeft may row needs does start (seat_of p) y
   took_pool_as id start w p p1 p2 p3 out y is e s free of1 k of2 was now of3 now3 =
       let t = took_pool id start w p p1 p2 p3 out e s free of1 k of2 was now of3 now3 in
       let same : t.0 ≡ y = ap (λ (z : Slot B P). slot_pool z y) (sym t.1 ∙ is) in
-      subst (λ (z : P). Sits id start p3 × (seat_of p3 ≡ record (seat_of p) { pool = Some z }) × PoolLeft row needs does start (seat_of p) z) same (t.2, t.3, t.4)
+      subst (λ (z : P). Sits id start p3 × (seat_of p3 ≡ record (seat_of p) { pool = Some z }) × PoolLeft may row needs does start (seat_of p) z) same (t.2, t.3, t.4)
 
   -- a row is given back
   pub gives_row : (id : TableId) (start : Contents B P) (slots w b : ℕ) (y : B) (p p1 : Place B P Q) → w ≡ b * 8 → Sits id start p → row_at p ≡ Some (b, y) → 0 < p.me.0.parts
@@ -297,7 +297,7 @@ module _ {B P Q R : Type 0} (row : Q → Option ℕ) (needs : Q → Option B →
       let c1 : p1.me.1 ≡ (b, Row y) ∷ rest p.me.1 = ap (λ (m : Mine B P Q). m.1) me in
       let parts : p1.me.0.parts ≡ p.me.0.parts = ap (λ (m : Mine B P Q). m.0.parts) me in
       subst (λ (z : ℕ). Allows (Rules start) slots p1.id p1.me z (λ _. 0) (λ _ m. m ≡ (knows p1.me.0.parts p1.me.0.start p1.me.0.seen (rest p1.me.0.held) p1.me.0.refusals, rest p1.me.1))) (sym e)
-      (gives_lock (effect row needs does) cells count_of all_parts (suc n) start slots p1.id b p1.me.0 p1.me.1 (rest p.me.1) (Row y) (rest p1.me.0.held)
+      (gives_lock (effect row needs does) cells count_of may all_parts (suc n) start slots p1.id b p1.me.0 p1.me.1 (rest p.me.1) (Row y) (rest p1.me.0.held)
       (λ z. z ≡ (knows p1.me.0.parts p1.me.0.start p1.me.0.seen (rest p1.me.0.held) p1.me.0.refusals, rest p1.me.1)) (omega (arith, near)) (omega (arith, parts, some_part)) c1
       (subst (λ (l : List (ℕ × Slot B P)). In (b, Row y) l) (sym h1) (inl refl)) (subst (λ (l : List (ℕ × Slot B P)). Without b l (rest l)) (sym h1) (out_row n b (Row y) po near))
       (λ k. (knows p1.me.0.parts p1.me.0.start p1.me.0.seen (rest p1.me.0.held) p1.me.0.refusals, rest (sym c1 k))))
@@ -314,7 +314,7 @@ module _ {B P Q R : Type 0} (row : Q → Option ℕ) (needs : Q → Option B →
       let c1 : p1.me.1 ≡ (n, Pool y) ∷ rest p0.me.1 = ap (λ (m : Mine B P Q). m.1) me in
       let parts : p1.me.0.parts ≡ p.me.0.parts = ap (λ (m : Mine B P Q). m.0.parts) me ∙ ap (λ (m : Mine B P Q). m.0.parts) me0 in
       subst (λ (z : ℕ). Allows (Rules start) slots p1.id p1.me z (λ _. 0) (λ _ m. m ≡ (knows p1.me.0.parts p1.me.0.start p1.me.0.seen (row_part (row_in p1.me.0.held) []) p1.me.0.refusals, rest p1.me.1))) (sym at)
-      (gives_lock (effect row needs does) cells count_of all_parts (suc n) start slots p1.id n p1.me.0 p1.me.1 (rest p0.me.1) (Pool y) (row_part (row_in p1.me.0.held) [])
+      (gives_lock (effect row needs does) cells count_of may all_parts (suc n) start slots p1.id n p1.me.0 p1.me.1 (rest p0.me.1) (Pool y) (row_part (row_in p1.me.0.held) [])
       (λ z. z ≡ (knows p1.me.0.parts p1.me.0.start p1.me.0.seen (row_part (row_in p1.me.0.held) []) p1.me.0.refusals, rest p1.me.1)) (omega arith) (omega (arith, parts, some_part)) c1
       (subst (λ (l : List (ℕ × Slot B P)). In (n, Pool y) l) (sym h1) (in_held n r y))
       (subst (λ (l : List (ℕ × Slot B P)). Without n l (row_part (row_in l) [])) (sym h1) (subst (λ (o : Option (ℕ × B)). Without n (held_of n r (Some y)) (row_part o [])) (sym (row_in_held n r (Some y))) (out_pool n r y s.near)))
@@ -406,48 +406,49 @@ module _ {B P : Type 0} where
   same_empties n (Some b) (Some r) (Some y) nd p pl h g = ap (λ (l : List (ℕ × Slot B P)). (r.0, Empty) ∷ l) (same_pool_part n nd p pl g)
 
 -- looking and drawing
-module _ {B P Q R : Type 0} (row : Q → Option ℕ) (needs : Q → Option B → Bool) (does : Q → Option B → Option P → ℕ → Done B P R) where
+module _ {B P Q R : Type 0} (may : Contents B P → Q → Type 0) (row : Q → Option ℕ) (needs : Q → Option B → Bool) (does : Q → Option B → Option P → ℕ → Done B P R) where
   -- the sequence word is behind the pool's
   pub looks_at : (start : Contents B P) (slots id w : ℕ) (me : Mine B P Q) → w ≡ suc (length start.rows) * 8 → 0 < me.0.parts
-      → Allows (Rules row needs does start) slots id me w (λ n. n) (Looks (effect row needs does) cells count_of all_parts me)
-  looks_at start slots id w me e part = subst (λ (z : ℕ). Allows (Rules row needs does start) slots id me z (λ n. n) (Looks (effect row needs does) cells count_of all_parts me)) (sym e)
-      (looks (effect row needs does) cells count_of all_parts (suc (length start.rows)) start slots id me part)
+      → Allows (Rules may row needs does start) slots id me w (λ n. n) (Looks (effect row needs does) cells count_of may all_parts me)
+  looks_at start slots id w me e part = subst (λ (z : ℕ). Allows (Rules may row needs does start) slots id me z (λ n. n) (Looks (effect row needs does) cells count_of may all_parts me)) (sym e)
+      (looks (effect row needs does) cells count_of may all_parts (suc (length start.rows)) start slots id me part)
 
   -- the history so far was seen
   pub looked : (id : TableId) (start : Contents B P) (p p1 : Place B P Q) (r : ℕ) → Sits id start p → p1.table_id ≡ p.table_id
-      → Looked (effect row needs does) cells count_of all_parts start p.me r p1.me
-      → Sits id start p1 × LookedAt row needs does start (seat_of p) (seat_of p1) r
+      → Looked (effect row needs does) cells count_of may all_parts start p.me r p1.me
+      → Sits id start p1 × LookedAt may row needs does start (seat_of p) (seat_of p1) r
   looked id start p p1 r s of k =
       let t = seats id start p.me.0.parts (p.me.0.seen ++ others k.between) (row_at p) (pool_at p) p.me.0.refusals p p1 s of s.near (k.now ∙ (λ i. (knows p.me.0.parts p.me.0.start (p.me.0.seen ++ others k.between) (s.held i) p.me.0.refusals, s.carried i))) in (
         t.0,
         record {
           between = k.between;
+          allowed = subst (λ (l : List Q). Each (may start) l) k.splits k.allowed;
           now = t.1;
           number = k.number ∙ (λ i. length (k.splits i) * 2097152 + (left_by row needs does start (k.splits i)).count);
           whole = λ all. let w = k.whole all in (none_between (calls p.me.0.seen) k.between (w.0 ∙ k.splits), drew_whole p.me.0.seen (calls p.me.0.seen) refl w.1);
         },
       )
 
-  pub draws_at : (id : TableId) (start : Contents B P) (slots w old new : ℕ) (q : Q) (ch : Change) (p : Place B P Q) → slots ≡ suc (length start.rows) → w ≡ suc (length start.rows) * 8 → Sits id start p → 0 < p.me.0.parts
+  pub draws_at : (id : TableId) (start : Contents B P) (slots w old new : ℕ) (q : Q) (ch : Change) (p : Place B P Q) → slots ≡ suc (length start.rows) → w ≡ suc (length start.rows) * 8 → Sits id start p → 0 < p.me.0.parts → may start q
       → HoldsRow (row q) (row_at p) → HoldsPool (needs q (bucket_held (row q) (row_at p))) (pool_at p)
       → ((c : ℕ) → (done_on row needs does q (row_at p) (pool_at p) c).change ≡ ch) → ((qs : List Q) → Counts (done row needs does q (left_by row needs does start qs)).change (left_by row needs does start qs).count)
       → new ≡ counted ch (old + 2097152)
-      → Allows (Rules row needs does start) slots p.id p.me w (λ r. either (eqb r old) new r) (Draws (effect row needs does) cells count_of all_parts slots q (held_then row needs does (slots - 1) q p.me.0.held (old % 2097152)) old p.me)
-  draws_at id start slots w old new q ch p es e s part hr hp change counts is =
+      → Allows (Rules may row needs does start) slots p.id p.me w (λ r. either (eqb r old) new r) (Draws (effect row needs does) cells count_of may all_parts slots q (held_then row needs does (slots - 1) q p.me.0.held (old % 2097152)) old p.me)
+  draws_at id start slots w old new q ch p es e s part fit hr hp change counts is =
       let m = length start.rows in
       let en : slots - 1 ≡ m = omega (arith, es) in
       let t = touches row needs does start m old new q (row_at p) (pool_at p) ch refl s.near hr hp change counts is in
       let t1 : Touches (effect row needs does) cells count_of start q p.me.0.held (held_then row needs does (slots - 1) q p.me.0.held (old % 2097152)) old new =
       subst (λ (h : List (ℕ × Slot B P)). Touches (effect row needs does) cells count_of start q h (held_then row needs does (slots - 1) q p.me.0.held (old % 2097152)) old new) (sym s.held)
       (subst (λ (z : ℕ). Touches (effect row needs does) cells count_of start q (held_of m (row_at p) (pool_at p)) (held_then row needs does z q p.me.0.held (old % 2097152)) old new) (sym en) t) in
-      subst (λ (z : ℕ). Allows (Rules row needs does start) slots p.id p.me z (λ r. either (eqb r old) new r) (Draws (effect row needs does) cells count_of all_parts slots q (held_then row needs does (slots - 1) q p.me.0.held (old % 2097152)) old p.me)) (sym e)
-      (subst (λ (z : ℕ). Allows (Rules row needs does start) slots p.id p.me (word_at (suc m)) (λ r. either (eqb r old) new r) (Draws (effect row needs does) cells count_of all_parts z q (held_then row needs does (slots - 1) q p.me.0.held (old % 2097152)) old p.me)) (sym es)
-      (draws_call (effect row needs does) cells count_of all_parts (suc m) start slots p.id old new q (held_then row needs does (slots - 1) q p.me.0.held (old % 2097152)) p.me part t1))
+      subst (λ (z : ℕ). Allows (Rules may row needs does start) slots p.id p.me z (λ r. either (eqb r old) new r) (Draws (effect row needs does) cells count_of may all_parts slots q (held_then row needs does (slots - 1) q p.me.0.held (old % 2097152)) old p.me)) (sym e)
+      (subst (λ (z : ℕ). Allows (Rules may row needs does start) slots p.id p.me (word_at (suc m)) (λ r. either (eqb r old) new r) (Draws (effect row needs does) cells count_of may all_parts z q (held_then row needs does (slots - 1) q p.me.0.held (old % 2097152)) old p.me)) (sym es)
+      (draws_call (effect row needs does) cells count_of may all_parts (suc m) start slots p.id old new q (held_then row needs does (slots - 1) q p.me.0.held (old % 2097152)) p.me part fit t1))
 
   pub drew : (id : TableId) (start : Contents B P) (q : Q) (n old : ℕ) (p p1 : Place B P Q) → n ≡ length start.rows → Sits id start p → p1.table_id ≡ p.table_id
       → HoldsRow (row q) (row_at p) → HoldsPool (needs q (bucket_held (row q) (row_at p))) (pool_at p) → ((qs : List Q) → (left_by row needs does start qs).count ≤ 1048576)
-      → DrewOne (effect row needs does) cells count_of all_parts q (held_then row needs does n q p.me.0.held (old % 2097152)) old start p.me p1.me
-      → Sits id start p1 × DrewAt row needs does start q (seat_of p) (seat_of p1) (old / 2097152) (old % 2097152)
+      → DrewOne (effect row needs does) cells count_of may all_parts q (held_then row needs does n q p.me.0.held (old % 2097152)) old start p.me p1.me
+      → Sits id start p1 × DrewAt may row needs does start q (seat_of p) (seat_of p1) (old / 2097152) (old % 2097152)
   drew id start q n old p p1 is s of hr hp small k =
       let m = length start.rows in let seen = p.me.0.seen in
       let d : Done B P R = done_on row needs does q (row_at p) (pool_at p) (old % 2097152) in
@@ -468,6 +469,7 @@ module _ {B P Q R : Type 0} (row : Q → Option ℕ) (needs : Q → Option B →
         t.0,
         record {
           between = k.between;
+          allowed = subst (λ (l : List Q). Each (may start) l) k.splits k.allowed;
           now = t.1;
           place = at ∙ ap (λ (l : List Q). length l) k.splits;
           draws = ap draws_of seen_now ∙ draws_grow seen k.between q ∙ (λ i. draws_of seen ++ (sym (at ∙ ap (λ (l : List Q). length l) k.splits) i, q) ∷ []);
@@ -485,19 +487,19 @@ module _ {B P Q R : Type 0} (row : Q → Option ℕ) (needs : Q → Option B →
 
   pub drew_or_not : (id : TableId) (start : Contents B P) (q : Q) (slots old r : ℕ) (b : Bool) (p p1 : Place B P Q) → slots ≡ suc (length start.rows) → Sits id start p → p1.table_id ≡ p.table_id
       → HoldsRow (row q) (row_at p) → HoldsPool (needs q (bucket_held (row q) (row_at p))) (pool_at p) → ((qs : List Q) → (left_by row needs does start qs).count ≤ 1048576)
-      → MatchBool b (DrewOne (effect row needs does) cells count_of all_parts q (held_then row needs does (slots - 1) q p.me.0.held (old % 2097152)) old start p.me p1.me) (p1.me ≡ refused slots r p.me)
-      → Sits id start p1 × MatchBool b (DrewAt row needs does start q (seat_of p) (seat_of p1) (old / 2097152) (old % 2097152)) (seat_of p1 ≡ record (seat_of p) { refusals = (suc (length start.rows), r) ∷ p.me.0.refusals })
+      → MatchBool b (DrewOne (effect row needs does) cells count_of may all_parts q (held_then row needs does (slots - 1) q p.me.0.held (old % 2097152)) old start p.me p1.me) (p1.me ≡ refused slots r p.me)
+      → Sits id start p1 × MatchBool b (DrewAt may row needs does start q (seat_of p) (seat_of p1) (old / 2097152) (old % 2097152)) (seat_of p1 ≡ record (seat_of p) { refusals = (suc (length start.rows), r) ∷ p.me.0.refusals })
   drew_or_not id start q slots old r true p p1 is s of hr hp small k = drew id start q (slots - 1) old p p1 (omega (arith, is)) s of hr hp small k
   drew_or_not id start q slots old r false p p1 is s of hr hp small k = refused_seat id start (suc (length start.rows)) r p p1 s of (k ∙ ap (λ (z : ℕ). refused z r p.me) is)
 
-  pub look_number : (start : Contents B P) (old new : SeatNow B P Q) (found : ℕ) → ((qs : List Q) → (left_by row needs does start qs).count ≤ 1048576) → LookedAt row needs does start old new found
+  pub look_number : (start : Contents B P) (old new : SeatNow B P Q) (found : ℕ) → ((qs : List Q) → (left_by row needs does start qs).count ≤ 1048576) → LookedAt may row needs does start old new found
       → (found / 2097152 ≡ length (calls new.seen)) × (found ≤ length (calls new.seen) * 2097152 + 1048576)
   look_number start old new found small l =
       let e : length (calls old.seen ++ l.between) ≡ length (calls new.seen) = ap (λ (z : List Q). length z) (sym (ap (λ (w : SeatNow B P Q). calls w.seen) l.now ∙ calls_look old.seen l.between)) in
       let n = l.number in let b = small (calls old.seen ++ l.between) in (omega (arith, n, b, e), omega (arith, n, b, e))
 
   -- a look and then a draw
-  pub composed : (start : Contents B P) (q : Q) (old mid new : SeatNow B P Q) (found at rows : ℕ) → LookedAt row needs does start old mid found → DrewAt row needs does start q mid new at rows → DrewAt row needs does start q old new at rows
+  pub composed : (start : Contents B P) (q : Q) (old mid new : SeatNow B P Q) (found at rows : ℕ) → LookedAt may row needs does start old mid found → DrewAt may row needs does start q mid new at rows → DrewAt may row needs does start q old new at rows
   composed start q old mid new found at rows l d =
       let seen : mid.seen ≡ old.seen ++ others l.between = ap (λ (w : SeatNow B P Q). w.seen) l.now in
       let row_same : mid.row ≡ old.row = ap (λ (w : SeatNow B P Q). w.row) l.now in
@@ -513,6 +515,7 @@ module _ {B P Q R : Type 0} (row : Q → Option ℕ) (needs : Q → Option B →
       subst (λ (z : List Q). done row needs does q (left_by row needs does start z) ≡ done_on row needs does q mid.row mid.pool rows) e d.does_it ∙ (λ i. done_on row needs does q (row_same i) (pool_same i) rows) in
       record {
         between = l.between ++ d.between;
+        allowed = subst (λ (z : List Q). Each (may start) z) e d.allowed;
         now = now;
         place = place;
         draws = ap (λ (w : SeatNow B P Q). draws_of w.seen) now ∙ draws_grow old.seen (l.between ++ d.between) q ∙ (λ i. draws_of old.seen ++ (sym place i, q) ∷ []);
@@ -538,13 +541,13 @@ module _ {B P : Type 0} where
   cells_long [] p = refl
   cells_long (x ∷ xs) p = ap suc (cells_long xs p)
 
-module _ {B P Q R : Type 0} (row : Q → Option ℕ) (needs : Q → Option B → Bool) (does : Q → Option B → Option P → ℕ → Done B P R) where
+module _ {B P Q R : Type 0} (may : Contents B P → Q → Type 0) (row : Q → Option ℕ) (needs : Q → Option B → Bool) (does : Q → Option B → Option P → ℕ → Done B P R) where
   pub opens_at : (rows : List B) (pool : P) (n : ℕ) (words : List ℕ) (slots : List (Slot B P)) → words ≡ replicate n 0 → n ≡ suc (suc (length rows)) * 8 → slots ≡ map Row rows ++ Pool pool ∷ []
-      → Rules row needs does (contents rows pool 0) (opening words slots (knows all_parts (Some (contents rows pool 0)) [] [] []))
+      → Rules may row needs does (contents rows pool 0) (opening words slots (knows all_parts (Some (contents rows pool 0)) [] [] []))
   opens_at rows pool n words slots ew en es =
       let long : length words ≡ suc (suc (length rows)) * 8 = ap (λ (l : List ℕ). length l) ew ∙ length-replicate n 0 ∙ en in
-      subst (λ (z : List (Slot B P)). Rules row needs does (contents rows pool 0) (opening words z (knows all_parts (Some (contents rows pool 0)) [] [] []))) (sym es)
-      (opens (effect row needs does) cells count_of all_parts (suc (length rows)) (contents rows pool 0) words long (λ i. ap (λ (l : List ℕ). slice_index l i) ew ∙ zero_at n i) (cells_long rows pool) refl)
+      subst (λ (z : List (Slot B P)). Rules may row needs does (contents rows pool 0) (opening words z (knows all_parts (Some (contents rows pool 0)) [] [] []))) (sym es)
+      (opens (effect row needs does) cells count_of may all_parts (suc (length rows)) (contents rows pool 0) words long (λ i. ap (λ (l : List ℕ). slice_index l i) ew ∙ zero_at n i) (cells_long rows pool) refl)
 
   -- a new seat
   pub first_seat : (id : TableId) (rows : List B) (pool : P) (p : Place B P Q) → p.table_id ≡ id → p.me ≡ (knows all_parts (Some (contents rows pool 0)) [] [] [], []) → Sits id (contents rows pool 0) p

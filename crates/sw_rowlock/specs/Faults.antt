@@ -8,11 +8,11 @@ use Rattle.sw_rowlock.specs.Calls.{Done}
 use Rattle.sw_rowlock.specs.Seats.{SeatNow, sequence_number}
 use Rattle.sw_rowlock.specs.Told.{LookedAt}
 
-module _ {B P Q R : Type 0} (row_of : Q → Option ℕ) (needs : Q → Option B → Bool) (does : Q → Option B → Option P → ℕ → Done B P R) where
+module _ {B P Q R : Type 0} (may : Contents B P → Q → Type 0) (row_of : Q → Option ℕ) (needs : Q → Option B → Bool) (does : Q → Option B → Option P → ℕ → Done B P R) where
   -- the history that was seen has n calls, which is last_call or more
   pub record SpentAt (start : Contents B P) (old new : SeatNow B P Q) (last_call n : ℕ) : Type 0 where
     pub loaded : ℕ
-    pub looked : LookedAt row_of needs does start old new loaded
+    pub looked : LookedAt may row_of needs does start old new loaded
     pub made : n ≡ length (calls new.seen)
     pub at_end : last_call ≤ n
 
@@ -20,7 +20,7 @@ module _ {B P Q R : Type 0} (row_of : Q → Option ℕ) (needs : Q → Option B 
   pub record MovedAt (start : Contents B P) (old new : SeatNow B P Q) (last_call n : ℕ) : Type 0 where
     pub loaded : ℕ
     pub mid : SeatNow B P Q
-    pub looked : LookedAt row_of needs does start old mid loaded
+    pub looked : LookedAt may row_of needs does start old mid loaded
     pub room : length (calls mid.seen) < last_call
     pub now : new ≡ record mid { refusals = (sequence_number start, n) ∷ mid.refusals }
     pub moved : n ≢ loaded

@@ -29,6 +29,11 @@ module _ {Q : Type 0} where
   Begins (x ∷ xs) [] = ⊥
   Begins (x ∷ xs) (q ∷ qs) = (x.1 ≡ q) × Begins xs qs
 
+  -- each of the calls is such
+  abbrev pub Each : (Q → Type 0) → List Q → Type 0
+  Each P [] = Unit {0}
+  Each P (q ∷ qs) = P q × Each P qs
+
   -- how often the seat drew the place p
   abbrev pub times_drawn : ℕ → List (ℕ × Q) → ℕ
   times_drawn p [] = 0

@@ -5,7 +5,7 @@ use mathlib.Core.Option as M
 use lib.ListN.{get_elem?}
 use Rattle.atomic_table.specs.Table.{State, Me}
 use Rattle.sw_rowlock.specs.declared.view.View.{View}
-use Rattle.sw_rowlock.specs.History.{below, calls, others, owns, Begins, times_drawn, after}
+use Rattle.sw_rowlock.specs.History.{below, calls, others, owns, Begins, Each, times_drawn, after}
 
 -- the word of a lock: each lies on a cache line of its own
 abbrev pub word_at : ℕ → ℕ
@@ -59,8 +59,8 @@ module _ {S Q T : Type 0} where
   abbrev pub Manned : List (View S Q T) → ℕ → ℕ → Type 0
   Manned views i id = (u : View S Q T) × (get_elem? views id ≡ some u) × (0 < u.parts) × Has i u.held
 
--- A call changes a state. A state has a value for each lock, and a count.
-module _ {S Q T : Type 0} (effect : Q → T → T) (cells : T → List S) (count : T → ℕ) where
+-- A call changes a state. A state has a value for each lock, and a count. Some calls may be drawn where locks started with a state.
+module _ {S Q T : Type 0} (effect : Q → T → T) (cells : T → List S) (count : T → ℕ) (may : T → Q → Type 0) where
   -- owner i is 0 where the lock is free, and one more than the number of the seat that holds it
   pub record Fits (log : List Q) (start : T) (owner : ℕ → ℕ) (id : ℕ) (v : View S Q T) : Type 0 where
     pub begins : Begins v.seen log
@@ -78,6 +78,7 @@ module _ {S Q T : Type 0} (effect : Q → T → T) (cells : T → List S) (count
   -- There is one history. Each lock is free or held by one seat, the sequence word has the history's length and count, and each place was drawn once
   pub record Locked (all locks : ℕ) (start : T) (s : State S (View S Q T)) : Type 0 where
     pub log : List Q
+    pub allowed : Each (may start) log
     pub owner : ℕ → ℕ
     pub wide : length s.words ≡ suc locks * 8
     pub long : length s.homes ≡ locks
@@ -92,6 +93,7 @@ module _ {S Q T : Type 0} (effect : Q → T → T) (cells : T → List S) (count
   pub record TookOne (all i : ℕ) (place : S → List (ℕ × S) → List (ℕ × S)) (start : T) (m n : Me S (View S Q T)) : Type 0 where
     pub value : S
     pub so_far : List Q
+    pub allowed : Each (may start) so_far
     pub begins : Begins m.0.seen so_far
     pub left : get_elem? (cells (after effect start so_far)) i ≡ some value
     pub now : n ≡ (knows m.0.parts m.0.start m.0.seen (place value m.0.held) m.0.refusals, (i, value) ∷ m.1)
@@ -109,6 +111,7 @@ module _ {S Q T : Type 0} (effect : Q → T → T) (cells : T → List S) (count
   pub record Looked (all : ℕ) (start : T) (m : Me S (View S Q T)) (r : ℕ) (n : Me S (View S Q T)) : Type 0 where
     pub between : List Q
     pub so_far : List Q
+    pub allowed : Each (may start) so_far
     pub splits : so_far ≡ calls m.0.seen ++ between
     pub number : r ≡ length so_far * 2097152 + count (after effect start so_far)
     pub now : n ≡ (knows m.0.parts m.0.start (m.0.seen ++ others between) m.0.held m.0.refusals, m.1)
@@ -121,6 +124,7 @@ module _ {S Q T : Type 0} (effect : Q → T → T) (cells : T → List S) (count
   pub record DrewOne (all : ℕ) (q : Q) (left : List (ℕ × S)) (old : ℕ) (start : T) (m n : Me S (View S Q T)) : Type 0 where
     pub between : List Q
     pub so_far : List Q
+    pub allowed : Each (may start) so_far
     pub splits : so_far ≡ calls m.0.seen ++ between
     pub number : old ≡ length so_far * 2097152 + count (after effect start so_far)
     pub held : (i : ℕ) (x : S) → In (i, x) m.0.held → get_elem? (cells (after effect start so_far)) i ≡ some x
@@ -135,6 +139,7 @@ module _ {S Q T : Type 0} (effect : Q → T → T) (cells : T → List S) (count
   abbrev pub Draws : (all locks : ℕ) → Q → List (ℕ × S) → ℕ → Me S (View S Q T) → ℕ → Me S (View S Q T) → Type 0
   Draws all locks q left old m r n = DrawsBy all locks q left old m (r == old) r n
 
+module _ {S Q T : Type 0} (effect : Q → T → T) (cells : T → List S) (count : T → ℕ) where
   -- what the call q does to a state t, in which the locks have the values held: they then have those of left, and no other has changed
   pub record Touched (q : Q) (held left : List (ℕ × S)) (t : T) : Type 0 where
     pub else_same : (i : ℕ) → ¬ (Has i held) → get_elem? (cells (effect q t)) i ≡ get_elem? (cells t) i

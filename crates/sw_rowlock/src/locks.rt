@@ -162,7 +162,7 @@ impl<B: Drop, P: Drop, C: Called<B, P>> RowLocks<B, P, C> {
         requires free { seat.old.row ≡ None }
         requires near { row < length self.now.start.rows }
         ensures taken { IfOk result (λ x. seat.new ≡ record seat.old { row = Some (row, x) }) }
-        ensures value { IfOk result (λ x. RowLeft C.row_of C.needs C.does self.now.start seat.old row x) }
+        ensures value { IfOk result (λ x. RowLeft C.may C.row_of C.needs C.does self.now.start seat.old row x) }
         ensures refused { IfErr result (λ found. (found ≡ 1) × (seat.new ≡ record seat.old { refusals = (row, found) ∷ seat.old.refusals })) }
         ensures alone { seat.old.parts ≡ all_parts → seat.old.pool ≡ None → IfErr result (λ _. ⊥) }
     {
@@ -190,7 +190,7 @@ impl<B: Drop, P: Drop, C: Called<B, P>> RowLocks<B, P, C> {
         requires part { 0 < seat.old.parts }
         requires free { seat.old.pool ≡ None }
         ensures taken { IfOk result (λ x. seat.new ≡ record seat.old { pool = Some x }) }
-        ensures value { IfOk result (λ x. PoolLeft C.row_of C.needs C.does self.now.start seat.old x) }
+        ensures value { IfOk result (λ x. PoolLeft C.may C.row_of C.needs C.does self.now.start seat.old x) }
         ensures refused { IfErr result (λ found. (found ≡ 1) × (seat.new ≡ record seat.old { refusals = (pool_number self.now.start, found) ∷ seat.old.refusals })) }
         ensures alone { seat.old.parts ≡ all_parts → seat.old.row ≡ None → IfErr result (λ _. ⊥) }
     {
@@ -224,11 +224,12 @@ impl<B: Drop, P: Drop, C: Called<B, P>> RowLocks<B, P, C> {
         requires part { 0 < seat.old.parts }
         requires row { HoldsRow (C.row_of Q.call) seat.old.row }
         requires pool { HoldsPool (C.needs Q.call (bucket_held (C.row_of Q.call) seat.old.row)) seat.old.pool }
+        requires may { C.may self.now.start Q.call }
         requires change { (c : ℕ) → (done_on C.row_of C.needs C.does Q.call seat.old.row seat.old.pool c).change ≡ change }
         requires last { last_call ≤ 8796093022207 }
         ensures room { IfOk result (λ d. d.at < last_call) }
-        ensures drew { IfOk result (λ d. DrewAt C.row_of C.needs C.does self.now.start Q.call seat.old seat.new d.at d.rows) }
-        ensures refused { IfErr result (λ fault. RefusedBy C.row_of C.needs C.does self.now.start seat.old seat.new last_call fault) }
+        ensures drew { IfOk result (λ d. DrewAt C.may C.row_of C.needs C.does self.now.start Q.call seat.old seat.new d.at d.rows) }
+        ensures refused { IfErr result (λ fault. RefusedBy C.may C.row_of C.needs C.does self.now.start seat.old seat.new last_call fault) }
     {
         // The proof takes from the locks' invariant that the number of rows is below `ONE_CALL`.
         let _ = &self.rows;
@@ -287,7 +288,7 @@ impl<B: Drop, P: Drop, C: Called<B, P>> RowLocks<B, P, C> {
     fn look(&self, seat: &mut Seat<B, P, C>) -> u64
         requires seat { IsSeatOf self.now seat.old }
         requires part { 0 < seat.old.parts }
-        ensures { LookedAt C.row_of C.needs C.does self.now.start seat.old seat.new result }
+        ensures { LookedAt C.may C.row_of C.needs C.does self.now.start seat.old seat.new result }
     {
         self.table
             .shared
@@ -300,10 +301,11 @@ impl<B: Drop, P: Drop, C: Called<B, P>> RowLocks<B, P, C> {
         requires part { 0 < seat.old.parts }
         requires row { HoldsRow (C.row_of Q.call) seat.old.row }
         requires pool { HoldsPool (C.needs Q.call (bucket_held (C.row_of Q.call) seat.old.row)) seat.old.pool }
+        requires may { C.may self.now.start Q.call }
         requires change { (c : ℕ) → (done_on C.row_of C.needs C.does Q.call seat.old.row seat.old.pool c).change ≡ change }
         requires room { old + 2097153 < 2 ^ 64 }
         ensures { MatchBool (result == old)
-            (DrewAt C.row_of C.needs C.does self.now.start Q.call seat.old seat.new (old / 2097152) (old % 2097152))
+            (DrewAt C.may C.row_of C.needs C.does self.now.start Q.call seat.old seat.new (old / 2097152) (old % 2097152))
             (seat.new ≡ record seat.old { refusals = (sequence_number self.now.start, result) ∷ seat.old.refusals }) }
     {
         let new = number_after(old, change);

@@ -28,7 +28,7 @@ impl<B, P, C: Called<B, P>> TableRule<
     ghost use Rattle.sw_rowlock.specs.Calls.{effect, cells, count_of};
     ghost use Rattle.sw_rowlock.specs.Seats.{all_parts, start_of};
 
-    ghost holds = { λ k. Locked (effect C.row_of C.needs C.does) cells count_of all_parts (suc (length (start_of k).rows)) (start_of k) };
+    ghost holds = { λ k. Locked (effect C.row_of C.needs C.does) cells count_of C.may all_parts (suc (length (start_of k).rows)) (start_of k) };
 
     ghost first = { λ k. knows all_parts (Some (start_of k)) [] [] [] };
 }
@@ -45,7 +45,7 @@ impl<B, P, C: Called<B, P>> Play<Slot<B, P>, View<Slot<B, P>, C::Call, Contents<
     ghost use Rattle.sw_rowlock.specs.Calls.{effect, cells, count_of};
     ghost use Rattle.sw_rowlock.specs.Seats.{all_parts, row_first};
 
-    ghost then = { λ s m r n. Takes (effect C.row_of C.needs C.does) cells count_of all_parts (s.word / 8) (row_first (s.word / 8)) m r n };
+    ghost then = { λ s m r n. Takes (effect C.row_of C.needs C.does) cells count_of C.may all_parts (s.word / 8) (row_first (s.word / 8)) m r n };
 }
 
 /// Takes the pool.
@@ -60,7 +60,7 @@ impl<B, P, C: Called<B, P>> Play<Slot<B, P>, View<Slot<B, P>, C::Call, Contents<
     ghost use Rattle.sw_rowlock.specs.Calls.{effect, cells, count_of};
     ghost use Rattle.sw_rowlock.specs.Seats.{all_parts, pool_last};
 
-    ghost then = { λ s m r n. Takes (effect C.row_of C.needs C.does) cells count_of all_parts (s.word / 8) (pool_last (s.word / 8)) m r n };
+    ghost then = { λ s m r n. Takes (effect C.row_of C.needs C.does) cells count_of C.may all_parts (s.word / 8) (pool_last (s.word / 8)) m r n };
 }
 
 /// Gives the row.
@@ -97,7 +97,7 @@ impl<B, P, C: Called<B, P>> Play<Slot<B, P>, View<Slot<B, P>, C::Call, Contents<
     ghost use Rattle.sw_rowlock.specs.Calls.{effect, cells, count_of};
     ghost use Rattle.sw_rowlock.specs.Seats.{all_parts};
 
-    ghost then = { λ s m r n. Looks (effect C.row_of C.needs C.does) cells count_of all_parts m r n };
+    ghost then = { λ s m r n. Looks (effect C.row_of C.needs C.does) cells count_of C.may all_parts m r n };
 }
 
 /// Draws a place for the call Q.
@@ -114,7 +114,7 @@ impl<B, P, C: Called<B, P>, Q: Asked<C::Call>> Play<
     ghost use Rattle.sw_rowlock.specs.Calls.{effect, cells, count_of};
     ghost use Rattle.sw_rowlock.specs.Seats.{all_parts, held_then};
 
-    ghost then = { λ s m r n. rule.Draws (effect C.row_of C.needs C.does) cells count_of all_parts s.slots Q.call (held_then C.row_of C.needs C.does (s.slots - 1) Q.call m.0.held (s.first % 2097152)) s.first m r n };
+    ghost then = { λ s m r n. rule.Draws (effect C.row_of C.needs C.does) cells count_of C.may all_parts s.slots Q.call (held_then C.row_of C.needs C.does (s.slots - 1) Q.call m.0.held (s.first % 2097152)) s.first m r n };
 }
 
 /// Cuts off a seat with the parts that N names.

@@ -1,11 +1,16 @@
 -- Calls that move a number from the pool to a row, as far as the pool has it, and answer what the pool had.
 use Rattle.std.specs.Prelude.{ℕ, ◌+◌, ◌-◌, ◌%◌, ◌^◌, Bool, true, Option, Some, None, min}
 use Rattle.sw_rowlock.specs.declared.calls.Change.TheVariants.{Same}
+use Rattle.sw_rowlock.specs.declared.calls.Contents.{Contents}
 use Rattle.sw_rowlock.specs.Calls.{Done}
 
 abbrev pub or_zero : Option ℕ → ℕ
 or_zero None = 0
 or_zero (Some x) = x
+
+-- any move may be made
+abbrev pub AnyMove : Contents ℕ ℕ → ℕ × ℕ → Type 0
+AnyMove start q = Unit {0}
 
 -- the row, and how much is to be moved
 abbrev pub move_row : ℕ × ℕ → Option ℕ

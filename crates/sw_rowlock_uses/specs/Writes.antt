@@ -1,8 +1,13 @@
 -- Calls that write a number into a row and answer what was there. A row that is not 0 counts, so a write may make the count grow or shrink.
-use Rattle.std.specs.Prelude.{◌≡◌, ℕ, zero, suc, ◌+◌, ◌≤◌, Bool, false, List, [], ◌∷◌, length, Option, Some, None}
+use Rattle.std.specs.Prelude.{◌≡◌, ℕ, zero, suc, ◌+◌, ◌≤◌, ◌<◌, Bool, false, List, [], ◌∷◌, length, Option, Some, None}
 use Rattle.sw_rowlock.specs.declared.calls.Change.{Change}
+use Rattle.sw_rowlock.specs.declared.calls.Contents.{Contents}
 use Rattle.sw_rowlock.specs.declared.calls.Change.TheVariants.{Same, More, Less}
 use Rattle.sw_rowlock.specs.Calls.{Done}
+
+-- a write is to a row that is there
+abbrev pub WriteFits : Contents ℕ ℕ → ℕ × ℕ → Type 0
+WriteFits start q = q.0 < length start.rows
 
 -- the row, and the number that is written
 abbrev pub write_row : ℕ × ℕ → Option ℕ

@@ -11,12 +11,14 @@ pub struct Moves;
 
 impl Called<u64, u64> for Moves {
     ghost use Rattle.std.specs.Prelude.{◌≤◌, length};
-    ghost use Rattle.sw_rowlock_uses.specs.Moves.{move_does, move_needs, move_row};
+    ghost use Rattle.sw_rowlock_uses.specs.Moves.{AnyMove, move_does, move_needs, move_row};
     ghost use Rattle.sw_rowlock_uses.specs.Moving.{moves_right};
 
     type Call = (u32, u64);
 
     type Reply = u64;
+
+    ghost may = { AnyMove };
 
     ghost row_of = { move_row };
 

@@ -6,7 +6,7 @@ ghost use Rattle.sw_rowlock.specs.Seats.{IsSeatOf, all_parts};
 ghost use Rattle.sw_rowlock.specs.Told.{DrewAt};
 ghost use Rattle.sw_rowlock.specs.Faults.{RefusedBy};
 ghost use Rattle.sw_rowlock_uses.specs.Ready.{IsReady, MadeAt};
-ghost use Rattle.sw_rowlock_uses.specs.Writes.{change_of, write_does, write_needs, write_row};
+ghost use Rattle.sw_rowlock_uses.specs.Writes.{WriteFits, change_of, write_does, write_needs, write_row};
 
 use std::marker::{Brand, PhantomData};
 use sw_rowlock::{Asked, Called, Change, DrawFault, Drawn, RowLocks, Seat};
@@ -15,12 +15,14 @@ use sw_rowlock::{Asked, Called, Change, DrawFault, Drawn, RowLocks, Seat};
 pub struct Writes;
 
 impl Called<u64, u64> for Writes {
-    ghost use Rattle.sw_rowlock_uses.specs.Writes.{AllZero, write_does, write_needs, write_row};
+    ghost use Rattle.sw_rowlock_uses.specs.Writes.{AllZero, WriteFits, write_does, write_needs, write_row};
     ghost use Rattle.sw_rowlock_uses.specs.Writing.{writes_right};
 
     type Call = (u32, u64);
 
     type Reply = u64;
+
+    ghost may = { WriteFits };
 
     ghost row_of = { write_row };
 
@@ -75,8 +77,9 @@ fn draw_write<N: Writing>(
     requires call { N.written ≡ (row, new) }
     requires seat { IsSeatOf locks.now seat.old × (0 < seat.old.parts) }
     requires held { seat.old.row ≡ Some (row, old) }
-    ensures drew { IfOk result (λ d. DrewAt write_row write_needs write_does locks.now.start (row, new) seat.old seat.new d.at d.rows) }
-    ensures refused { IfErr result (λ fault. RefusedBy write_row write_needs write_does locks.now.start seat.old seat.new 8796093022207 fault) }
+    requires near { row < length locks.now.start.rows }
+    ensures drew { IfOk result (λ d. DrewAt WriteFits write_row write_needs write_does locks.now.start (row, new) seat.old seat.new d.at d.rows) }
+    ensures refused { IfErr result (λ fault. RefusedBy WriteFits write_row write_needs write_does locks.now.start seat.old seat.new 8796093022207 fault) }
 {
     locks.draw::<Of<N>>(seat, 8_796_093_022_207, change_by(old, new))
 }

@@ -25,7 +25,7 @@ store-requires g c =
     let pool : pool_at c.seat.inside.place ≡ Some c.args.pool = ap (λ (v : SeatNow g.row.B.Denot g.row.P.Denot g.row.C-Call.Denot). v.pool) c.seat.view_is ∙ c.requires.held in
     let rows : c.self.inside.rows ≡ length c.self.inside.table.shared.key.rows.value.items = sym c.self.invariant.long in
     let w = c.self.invariant.words in let at = c.word_of.ensures in
-    (c.exchange-slot.ensures.0 ∙ c.turn.ensures.0 ∙ s.of, omega (arith, w, at), gives_pool g.C.Called.row_of g.C.Called.needs g.C.Called.does _ _ _ _ _ _ c.seat.inside.place c.turn.new.self c.exchange-slot.new.seat rows at s pool part c.turn.ensures.2 c.exchange-slot.ensures.3)
+    (c.exchange-slot.ensures.0 ∙ c.turn.ensures.0 ∙ s.of, omega (arith, w, at), gives_pool g.C.Called.may g.C.Called.row_of g.C.Called.needs g.C.Called.does _ _ _ _ _ _ c.seat.inside.place c.turn.new.self c.exchange-slot.new.seat rows at s pool part c.turn.ensures.2 c.exchange-slot.ensures.3)
 
 pub invariant_of-seat : goal.invariant_of-seat
 invariant_of-seat g c =

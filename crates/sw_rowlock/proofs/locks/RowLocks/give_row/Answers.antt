@@ -23,7 +23,7 @@ store-requires g c =
     let row : row_at c.seat.inside.place ≡ Some (c.args.row, c.args.value) = ap (λ (v : SeatNow g.row.B.Denot g.row.P.Denot g.row.C-Call.Denot). v.row) c.seat.view_is ∙ c.requires.held in
     let near : c.args.row < length c.self.inside.table.shared.key.rows.value.items = near_row _ _ c.seat.inside.place _ s row in
     let w = c.self.invariant.words in let long = c.self.invariant.long in let at = c.word_of.ensures in
-    (c.exchange-slot.ensures.0 ∙ s.of, omega (arith, w, long, near, at), gives_row g.C.Called.row_of g.C.Called.needs g.C.Called.does _ _ _ _ _ _ c.seat.inside.place c.exchange-slot.new.seat at s row part c.exchange-slot.ensures.3)
+    (c.exchange-slot.ensures.0 ∙ s.of, omega (arith, w, long, near, at), gives_row g.C.Called.may g.C.Called.row_of g.C.Called.needs g.C.Called.does _ _ _ _ _ _ c.seat.inside.place c.exchange-slot.new.seat at s row part c.exchange-slot.ensures.3)
 
 pub invariant_of-seat : goal.invariant_of-seat
 invariant_of-seat g c =

@@ -13,7 +13,7 @@ join_seat-requires g c =
     let row : row_at c.other.inside.place ≡ None = ap (λ (v : SeatNow g.row.B.Denot g.row.P.Denot g.row.C-Call.Denot). v.row) c.other.view_is ∙ c.requires.empty.0 in
     let pool : pool_at c.other.inside.place ≡ None = ap (λ (v : SeatNow g.row.B.Denot g.row.P.Denot g.row.C-Call.Denot). v.pool) c.other.view_is ∙ c.requires.empty.1 in
     let w = c.self.invariant.words in
-    (s.of, o.of, alone_carried _ _ _ o row pool, omega (arith, w), joins_seats _ _ _ _ _ _ _ _ _ _ (alone_held _ _ _ o row pool))
+    (s.of, o.of, alone_carried _ _ _ o row pool, omega (arith, w), joins_seats _ _ _ _ _ _ _ _ _ _ _ (alone_held _ _ _ o row pool))
 
 pub invariant_of-seat : goal.invariant_of-seat
 invariant_of-seat g c =
