@@ -28,6 +28,8 @@ no_rows : (size b : ℕ) (q : List ℕ) → map.get (part size nothing b) q ≡ 
 no_rows size b q = get_part size nothing b q ∙ both_none (nat_eq (bucket size q) b) (map.get nothing q) (get-empty (slice_cmp nat_cmp) q) ∙ sym (get-empty (slice_cmp nat_cmp) q)
 
 -- an empty map has none in each bucket
-pub no_len : (size b : ℕ) → map.len (part size nothing b) ≡ 0
-no_len size b = ap map.len (same_state (part size nothing b) nothing (no_rows size b)) ∙ len-empty (slice_cmp nat_cmp) (List Value)
+pub no_rows_in : (size b : ℕ) → part size nothing b ≡ nothing
+no_rows_in size b = same_state (part size nothing b) nothing (no_rows size b)
 
+pub no_len : (size b : ℕ) → map.len (part size nothing b) ≡ 0
+no_len size b = ap map.len (no_rows_in size b) ∙ len-empty (slice_cmp nat_cmp) (List Value)

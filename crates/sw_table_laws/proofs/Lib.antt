@@ -6,5 +6,7 @@ pub mod RowLaws
 pub mod KeptRows
 pub mod BucketLaws
 pub mod AlikeLaws
+pub mod BucketSteps
+pub mod BucketBounds
 pub mod RaisedLaws
 pub mod Numbers

@@ -1,4 +1,4 @@
-use Rattle.std.specs.Prelude.{◌≡◌, ◌≢◌, ℕ, ◌+◌, ◌-◌, ◌*◌, ◌^◌, ◌≤◌, ◌<◌, List, [], ◌∷◌, Option, Some, None, true, false, IsSome, nat_lt, ℤ, ◌+ℤ◌}
+use Rattle.std.specs.Prelude.{◌≡◌, ◌≢◌, ℕ, ◌+◌, ◌-◌, ◌*◌, ◌^◌, ◌≤◌, ◌<◌, List, [], ◌∷◌, Option, Some, None, Bool, true, false, IsSome, nat_lt, ℤ, ◌+ℤ◌}
 use Rattle.std.specs.FinMap as map
 use Rattle.sw_data.specs.declared.table.Value.{Value}
 use Rattle.sw_data.specs.declared.table.Value.TheVariants as values
@@ -12,6 +12,7 @@ use Rattle.sw_table_laws.specs.Rows.{size_of}
 use Rattle.sw_column.specs.Fit.{fits, call_fault}
 use Rattle.sw_table_laws.specs.Table.{State, Shape, Step, Entry, bucket, part, used, TStep, needs_pool, after}
 use Rattle.sw_table_laws.specs.Sizes.{raised}
+use Rattle.sw_table_laws.specs.Buckets.{bucket_step, asks_pool}
 
 -- the key of a call, if it has one
 abbrev pub key_of : Call → Option (List ℕ)
@@ -101,3 +102,19 @@ pub record IsRaised (n size : ℕ) : Type 0 where
 -- the size of a Table is that, for each size that may be asked for
 abbrev pub SizeIsRaised : Type 0
 SizeIsRaised = (n : ℕ) → n ≤ 524288 → IsRaised n (raised n)
+
+-- a call does to the rows of its bucket just what its step does to all rows: with the rows of its key's bucket, and the spare rows where it needs the pool
+pub record BucketTells (t : Shape) (s : State) (call : Call) (b : ℕ) (pool : Option ℕ) : Type 0 where
+  pub reply : (bucket_step t.columns (part t.size s b) pool call).reply ≡ (TStep t s call).reply
+  pub cells : (bucket_step t.columns (part t.size s b) pool call).cells ≡ (TStep t s call).cells
+  pub rows : (bucket_step t.columns (part t.size s b) pool call).state ≡ part t.size (TStep t s call).state b
+
+-- the pool, where a call needs it, tells how many rows are spare
+abbrev pub SpareIs : Bool → ℕ → Option ℕ → Type 0
+SpareIs true spare pool = pool ≡ Some spare
+SpareIs false spare pool = pool ≡ None
+
+abbrev pub BucketIsEnough : Type 0
+BucketIsEnough = (t : Shape) (s : State) (call : Call) (key : List ℕ) (pool : Option ℕ) → key_of call ≡ Some key
+    → (asks_pool t.columns (part t.size s (bucket t.size key)) call ≡ needs_pool t s call)
+    × (SpareIs (needs_pool t s call) (t.pool - used t.size s) pool → BucketTells t s call (bucket t.size key) pool)

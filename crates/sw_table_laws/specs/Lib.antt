@@ -1,4 +1,5 @@
 pub mod Rows
 pub mod Table
+pub mod Buckets
 pub mod Sizes
 pub mod Laws

@@ -1,6 +1,6 @@
 //! What readers may rely on of the Table's definition, each a law over all calls and all rows. The functions do nothing
 //! and carry the laws as their contracts.
-ghost use Rattle.sw_table_laws.specs.Laws.{KeepsRows, KeepsOthers, FullIsFull, SetThenIncr, CountCounts, OtherBuckets, BucketDecides, CountFollows, PoolFollows, PoolStays, RowsBounded, SizeIsRaised};
+ghost use Rattle.sw_table_laws.specs.Laws.{KeepsRows, KeepsOthers, FullIsFull, SetThenIncr, CountCounts, OtherBuckets, BucketDecides, CountFollows, PoolFollows, PoolStays, RowsBounded, SizeIsRaised, BucketIsEnough};
 
 /// A call that fits the columns leaves rows with a value for each column, which fits it.
 pub fn rows_keep_their_shape()
@@ -61,4 +61,10 @@ pub fn rows_are_bounded()
 /// The size of a Table is the least power of two that is at least 64 and what was asked for.
 pub fn size_is_raised()
     ensures { SizeIsRaised }
+{}
+
+/// The rows of a call's bucket, and the spare rows of the pool where the call needs it, are enough to answer it and to
+/// say what it leaves in that bucket.
+pub fn bucket_is_enough()
+    ensures { BucketIsEnough }
 {}

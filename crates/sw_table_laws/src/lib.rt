@@ -7,7 +7,7 @@
 mod laws;
 
 pub use laws::{
-    bucket_decides, count_counts_keys, count_follows_bucket, full_means_full, other_buckets_stay,
-    other_keys_stay, pool_follows_bucket, pool_stays, rows_are_bounded, rows_keep_their_shape,
-    set_then_incr_adds, size_is_raised,
+    bucket_decides, bucket_is_enough, count_counts_keys, count_follows_bucket, full_means_full,
+    other_buckets_stay, other_keys_stay, pool_follows_bucket, pool_stays, rows_are_bounded,
+    rows_keep_their_shape, set_then_incr_adds, size_is_raised,
 };

@@ -1,21 +1,13 @@
-use Rattle.std.proofs.Common.{◌≡◌, ℕ, zero, suc, ◌+◌, ◌-◌, ◌*◌, ◌^◌, ◌<◌, ◌≤◌, Bool, true, false, cond, ◌||◌, ◌&&◌, add-one, List, [], ◌∷◌, ◌++◌, length, Option, Some, None, refl, ap, sym, ◌∙◌, subst, arith, length-append, true≢false, FitsSigned, w64}
-use Rattle.std.specs.Prelude.{slice_get, unwrap_or, is_some, nat_lt, option_and_then, IsTrue, ℤ, pos, negsuc}
+use Rattle.std.proofs.Common.{◌≡◌, ℕ, ◌+◌, ◌*◌, Bool, true, false, cond, ◌||◌, add-one, List, [], ◌∷◌, ◌++◌, length, Option, Some, None, refl, ap, sym, ◌∙◌, arith, length-append}
+use Rattle.std.specs.Prelude.{slice_get, unwrap_or, is_some, nat_lt, pos}
 use Rattle.std.specs.Option.{option_map}
 use Rattle.std.specs.Str.{bytes_eq}
 use Rattle.std.specs.FinMap as map
-use Rattle.std.proofs.Math.Pow.{pow_mono}
-use Rattle.std.proofs.lemmas.Bool.Decides.{nat_tests}
 use Rattle.sw_data.specs.declared.table.Value.{Value}
-use Rattle.sw_column.specs.declared.column.Column.{Column}
-use Rattle.sw_column.specs.declared.column.Kind.{Kind}
-use Rattle.sw_column.specs.declared.column.Kind.TheVariants as kinds
-use Rattle.std.specs.List.{list_all}
-use Rattle.sw_data.specs.declared.table.Reply.TheVariants.{Range}
-use Rattle.sw_column.specs.Columns.{place, column_of, is_size, is_name, is_column, IsSchema}
-use Rattle.sw_column.specs.Fit.{fits, counter_fault, counter_kind}
-use Rattle.sw_column.specs.Values.{blank, blank_value}
-use Rattle.sw_table_laws.specs.Rows.{number_in, number_at, number_of, size_in, size_of}
-use Rattle.sw_table_laws.specs.Table.{State, Shape, has_room, may_write, row_of, add, add_step, answers}
+use Rattle.sw_column.specs.Columns.{place}
+use Rattle.sw_column.specs.Values.{blank}
+use Rattle.sw_table_laws.specs.Rows.{number_of}
+use Rattle.sw_table_laws.specs.Table.{State, has_room, row_of}
 use Rattle.sw_table_laws.specs.Sizes.{raised_by}
 use Rattle.sw_tmodel.specs.PlainRows.{row_at}
 use Rattle.sw_tmodel.specs.Store.{Stored, state_of}

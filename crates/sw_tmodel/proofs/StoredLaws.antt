@@ -1,10 +1,9 @@
 use Rattle.std.proofs.Common.{◌≡◌, ℕ, zero, suc, ◌+◌, ◌-◌, ◌*◌, ◌<◌, ◌≤◌, ◌⊎◌, inl, inr, Bool, true, false, cond, ◌||◌, List, [], ◌∷◌, ◌++◌, length, take, set, get_or, Option, Some, None, refl, ap, sym, ◌∙◌, subst, arith, eq-eqb, add-one, length-append, length-set, get_or-set_same, get_or-set_other}
 use Rattle.std.specs.Prelude.{slice_get, nat_eq, nat_lt, unwrap_or, remove, replicate, is_some, sum, sum_by, IfNone, IfSome}
 use Rattle.std.specs.Option.{option_map}
-use Rattle.std.specs.Ordering.{nat_cmp}
-use Rattle.std.specs.Cmp.Lexicographic.{slice_cmp, nat_list_cmp_total}
+use Rattle.std.specs.Cmp.Lexicographic.{nat_list_cmp_total}
 use Rattle.std.specs.FinMap as map
-use Rattle.std.specs.FinMap.{len-empty, len-insert, len-remove, get-empty, empty_of_len}
+use Rattle.std.specs.FinMap.{len-insert, len-remove}
 use Rattle.std.proofs.lemmas.List.Sums.{sum_by-set, sum_by_more, sum_by-cons}
 use Rattle.std.proofs.lemmas.List.Folds.{sum_by-replicate}
 use Rattle.std.proofs.lemmas.List.{take_all, length-replicate, get_or-replicate}
@@ -14,7 +13,7 @@ use Rattle.sw_column.specs.declared.column.Column.{Column}
 use Rattle.sw_table_laws.specs.Table.{State, bucket, part, used, sum_below, has_room}
 use Rattle.sw_tmodel.specs.PlainRows.{IsAt, key_at, row_at, with_row}
 use Rattle.sw_tmodel.specs.Store.{Distinct, Stored, pooled, state_of, IsStored}
-use Rattle.sw_table_laws.proofs.Maps.{same_state, get_own, get_part, part_inserted, part_beside, part_removed, part_left}
+use Rattle.sw_table_laws.proofs.Maps.{get_own, get_part, part_inserted, part_beside, part_removed, part_left}
 use Rattle.sw_table_laws.proofs.Lengths.{not_empty, no_len}
 use Rattle.sw_tmodel.proofs.StoreSteps.{Entry, found, put, put_distinct, taken_out, remove_distinct, pushed, push_distinct, get_listed, there, place_of}
 
