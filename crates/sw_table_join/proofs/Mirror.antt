@@ -18,7 +18,7 @@ use Rattle.sw_column.specs.declared.column.Column.{Column}
 use Rattle.sw_column.specs.Hash.{hash}
 use Rattle.sw_column.specs.Fit.{call_fault}
 use Rattle.sw_table_laws.specs.Table.{State, Shape, Step, LegalFrom, left_by, bucket, part, used, sum_below, TStep, needs_pool, after}
-use Rattle.sw_table_laws.specs.Buckets.{BucketNow, bucket_step, asks_pool, spare_after}
+use Rattle.sw_table_laws.specs.Buckets.{BucketNow, PoolNow, spare_in, bucket_step, asks_pool, pool_left}
 use Rattle.sw_table_laws.specs.Laws.{key_of, SpareIs, BucketTells}
 use Rattle.sw_table_laws.proofs.Lengths.{no_rows_in, no_len}
 use Rattle.sw_table_laws.proofs.Sums.{sum_zero}
@@ -58,37 +58,42 @@ get_replicate (suc n) (suc b) x lt = get_replicate n b x (omega (arith, lt))
 -- ---- one call
 
 -- the state after a call that has this row and finds this bucket there
-abbrev then_at : TableCall → Contents BucketNow ℕ → Option ℕ → Option BucketNow → Contents BucketNow ℕ
+abbrev then_at : TableCall → Contents BucketNow PoolNow → Option ℕ → Option BucketNow → Contents BucketNow PoolNow
 then_at q c row b = contents (rows_after row (call_does q b (pool_for (call_asks q b) c.pool) c.count).bucket c.rows) (pool_after (call_asks q b) (call_does q b (pool_for (call_asks q b) c.pool) c.count).pool c.pool)
     (counted (call_does q b (pool_for (call_asks q b) c.pool) c.count).change c.count)
 
-abbrev answer_at : TableCall → Contents BucketNow ℕ → Option BucketNow → Answer
+abbrev answer_at : TableCall → Contents BucketNow PoolNow → Option BucketNow → Answer
 answer_at q c b = (call_does q b (pool_for (call_asks q b) c.pool) c.count).reply
 
 abbrev call_of : Shape → Call → TableCall
 call_of t call = record { columns = t.columns; size = t.size; call = call }
 
 -- what a call keeps, and what it is answered
-pub record Goes (t : Shape) (s : State) (call : Call) (c : Contents BucketNow ℕ) (answer : Answer) : Type 0 where
+pub record Goes (t : Shape) (s : State) (call : Call) (c : Contents BucketNow PoolNow) (answer : Answer) : Type 0 where
   pub left : Mirrors t (TStep t s call).state c
   pub told : answer ≡ ((TStep t s call).reply, (TStep t s call).cells)
 
-spare_is : (nd : Bool) (p q n : ℕ) → p + n ≡ q → SpareIs nd (q - n) (pool_for nd p)
-spare_is true p q n e = let same : p ≡ q - n = omega (arith, e) in ap Some same
+spare_is : (nd : Bool) (p : PoolNow) (q n : ℕ) → p.spare + n ≡ q → SpareIs nd (q - n) (spare_in (pool_for nd p))
+spare_is true p q n e = let same : p.spare ≡ q - n = omega (arith, e) in ap Some same
 spare_is false p q n e = refl
 
 -- the pool after the step
-spare_then : (nd : Bool) (p u n u' n' total : ℕ) → p + u ≡ total → u' + (n - 1) ≡ u + (n' - 1) → (nd ≡ false → n' - 1 ≡ n - 1) → (nd ≡ true → n' - 1 ≤ p + (n - 1))
-    → pool_after nd (spare_after (pool_for nd p) n n') p + u' ≡ total
+spare_then : (nd : Bool) (p : PoolNow) (u n u' n' total : ℕ) → p.spare + u ≡ total → u' + (n - 1) ≡ u + (n' - 1) → (nd ≡ false → n' - 1 ≡ n - 1) → (nd ≡ true → n' - 1 ≤ p.spare + (n - 1))
+    → (pool_after nd (pool_left (pool_for nd p) n n') p).spare + u' ≡ total
 spare_then true p u n u' n' total e f still within = let w = within refl in omega (arith, e, f, w)
 spare_then false p u n u' n' total e f still within = let w = still refl in omega (arith, e, f, w)
+
+-- and its room
+room_then : (nd : Bool) (p : PoolNow) (n n' : ℕ) → (pool_after nd (pool_left (pool_for nd p) n n') p).room ≡ p.room
+room_then true p n n' = refl
+room_then false p n n' = refl
 
 counts_more : (a b : Bool) (n m c z s : ℕ) → nat_lt n m ≡ a → nat_lt m n ≡ b → Near n m → c ≡ s → z + n ≡ s + m → counted (cond a More (cond b Less Same)) c ≡ z
 counts_more true b n m c z s la lb d e f = let lt : n < m = grind (arith, nat_tests) in let w = d.more in omega (arith, lt, w, e, f)
 counts_more false true n m c z s la lb d e f = let lt : m < n = grind (arith, nat_tests) in let w = d.less in omega (arith, lt, w, e, f)
 counts_more false false n m c z s la lb d e f = let ge : m ≤ n = grind (arith, nat_tests) in let le : n ≤ m = grind (arith, nat_tests) in omega (arith, ge, le, e, f)
 
-module _ (t : Shape) (s : State) (call : Call) (key : List ℕ) (c : Contents BucketNow ℕ) (is : key_of call ≡ Some key) (some : 0 < t.size) (m : Mirrors t s c) where
+module _ (t : Shape) (s : State) (call : Call) (key : List ℕ) (c : Contents BucketNow PoolNow) (is : key_of call ≡ Some key) (some : 0 < t.size) (m : Mirrors t s c) where
   abbrev own : State
   own = part t.size s (bucket t.size key)
 
@@ -96,7 +101,7 @@ module _ (t : Shape) (s : State) (call : Call) (key : List ℕ) (c : Contents Bu
   nd = asks_pool t.columns own call
 
   abbrev po : Option ℕ
-  po = pool_for nd c.pool
+  po = spare_in (pool_for nd c.pool)
 
   abbrev here : BucketNow
   here = record { columns = t.columns; rows = own }
@@ -116,11 +121,11 @@ module _ (t : Shape) (s : State) (call : Call) (key : List ℕ) (c : Contents Bu
   rows_len : map.len step.state ≡ map.len (part t.size (TStep t s call).state (bucket t.size key))
   rows_len = ap map.len tells.rows
 
-  within : (b : Bool) → nd ≡ b → b ≡ true → map.len step.state - 1 ≤ c.pool + (map.len own - 1)
+  within : (b : Bool) → nd ≡ b → b ≡ true → map.len step.state - 1 ≤ c.pool.spare + (map.len own - 1)
   within b e is_true =
       let asked : nd ≡ true = e ∙ is_true in
-      let spare : po ≡ Some c.pool = ap (λ (x : Bool). pool_for x c.pool) asked in
-      subst (λ (o : Option ℕ). map.len (bucket_step t.columns own o call).state - 1 ≤ c.pool + (map.len own - 1)) (sym spare) (within_spare t.columns own c.pool call)
+      let spare : po ≡ Some c.pool.spare = ap (λ (x : Bool). spare_in (pool_for x c.pool)) asked in
+      subst (λ (o : Option ℕ). map.len (bucket_step t.columns own o call).state - 1 ≤ c.pool.spare + (map.len own - 1)) (sym spare) (within_spare t.columns own c.pool.spare call)
 
   keyed_goes : Goes t s call (then_at (call_of t call) c (Some (bucket t.size key)) (Some here)) (answer_at (call_of t call) c (Some here))
   keyed_goes =
@@ -140,16 +145,17 @@ module _ (t : Shape) (s : State) (call : Call) (key : List ℕ) (c : Contents Bu
               (get_here c.rows b after (omega (arith, long, lt)) ∙ ap (λ (r : State). Some (record { columns = t.columns; rows = r })) tells.rows))
               (λ ne. get_else c.rows b i after ne ∙ m.buckets i near_i ∙ ap (λ (r : State). Some (record { columns = t.columns; rows = r })) (sym (other_buckets t s call key i is ne)));
           spare = spare_then nd c.pool (used t.size s) (map.len own) (used t.size z) (map.len step.state) t.pool m.spare (omega (arith, follows, len)) (λ off. none_moved t.columns own po call off) (within nd refl);
+          room = room_then nd c.pool (map.len own) (map.len step.state) ∙ m.room;
           count = counts_more (nat_lt (map.len own) (map.len step.state)) (nat_lt (map.len step.state) (map.len own)) (map.len own) (map.len step.state) c.count (map.len z) (map.len s) refl refl (near t.columns own po call) m.count (omega (arith, counts, len));
         };
         told = λ i. (tells.reply i, tells.cells i);
       }
 
 -- a call without a key counts the rows
-count_goes : (t : Shape) (s : State) (c : Contents BucketNow ℕ) → Mirrors t s c → Goes t s Count (then_at (call_of t Count) c None None) (answer_at (call_of t Count) c None)
-count_goes t s c m = record { left = record { long = m.long; buckets = m.buckets; spare = m.spare; count = m.count }; told = λ i. (replies.Count (m.count i), []) }
+count_goes : (t : Shape) (s : State) (c : Contents BucketNow PoolNow) → Mirrors t s c → Goes t s Count (then_at (call_of t Count) c None None) (answer_at (call_of t Count) c None)
+count_goes t s c m = record { left = record { long = m.long; buckets = m.buckets; spare = m.spare; room = m.room; count = m.count }; told = λ i. (replies.Count (m.count i), []) }
 
-goes_at : (t : Shape) (s : State) (call : Call) (o : Option (List ℕ)) (c : Contents BucketNow ℕ) → key_of call ≡ o → 0 < t.size → Mirrors t s c
+goes_at : (t : Shape) (s : State) (call : Call) (o : Option (List ℕ)) (c : Contents BucketNow PoolNow) → key_of call ≡ o → 0 < t.size → Mirrors t s c
     → Goes t s call (effect call_row call_asks call_does (call_of t call) c) (done call_row call_asks call_does (call_of t call) c).reply
 goes_at t s call (Some key) c is some m =
     let row : call_row (call_of t call) ≡ Some (bucket t.size key) = ap (bucket_at t.size) is in
@@ -157,7 +163,7 @@ goes_at t s call (Some key) c is some m =
     let goes = keyed_goes t s call key c is some m in
     let left : then_at (call_of t call) c (call_row (call_of t call)) (bucket_for (call_row (call_of t call)) c.rows) ≡ then_at (call_of t call) c (Some (bucket t.size key)) (Some (here t s call key c is some m)) = (λ i. then_at (call_of t call) c (row i) (found i)) in
     record {
-      left = subst (λ (x : Contents BucketNow ℕ). Mirrors t (TStep t s call).state x) (sym left) goes.left;
+      left = subst (λ (x : Contents BucketNow PoolNow). Mirrors t (TStep t s call).state x) (sym left) goes.left;
       told = ap (λ (b : Option BucketNow). answer_at (call_of t call) c b) found ∙ goes.told;
     }
 goes_at t s (Set k pairs) None c is some m = absurd (cc)
@@ -177,7 +183,7 @@ columns_in : Option BucketNow → List Column → List Column
 columns_in None d = d
 columns_in (Some b) d = b.columns
 
-same_call : (t : Shape) (start : Contents BucketNow ℕ) (q : TableCall) → Starts t start → IsFor start q → q ≡ call_of t q.call
+same_call : (t : Shape) (start : Contents BucketNow PoolNow) (q : TableCall) → Starts t start → IsFor start q → q ≡ call_of t q.call
 unfolding columns_in
 same_call t start q st f =
     let rows : replicate q.size (empty_bucket q.columns) ≡ replicate t.size (empty_bucket t.columns) = sym f.of ∙ st.0 in
@@ -186,7 +192,7 @@ same_call t start q st f =
     let columns : q.columns ≡ t.columns = ap (λ (o : Option BucketNow). columns_in o t.columns) first in
     λ i. record { columns = columns i; size = size i; call = q.call }
 
-pub goes : (t : Shape) (s : State) (start c : Contents BucketNow ℕ) (q : TableCall) → Starts t start → IsFor start q → Mirrors t s c
+pub goes : (t : Shape) (s : State) (start c : Contents BucketNow PoolNow) (q : TableCall) → Starts t start → IsFor start q → Mirrors t s c
     → Goes t s q.call (effect call_row call_asks call_does q c) (done call_row call_asks call_does q c).reply
 goes t s start c q st f m =
     subst (λ (x : TableCall). Goes t s q.call (effect call_row call_asks call_does x c) (done call_row call_asks call_does x c).reply) (sym (same_call t start q st f))
@@ -194,11 +200,11 @@ goes t s start c q st f m =
 
 -- ---- histories
 
-record Follows (t : Shape) (s : State) (c : Contents BucketNow ℕ) (qs : List TableCall) : Type 0 where
+record Follows (t : Shape) (s : State) (c : Contents BucketNow PoolNow) (qs : List TableCall) : Type 0 where
   legal : LegalFrom t s (history_from t s qs)
   left : Mirrors t (left_by t s (history_from t s qs)) (calls.left_by call_row call_asks call_does c qs)
 
-follows : (t : Shape) (s : State) (start c : Contents BucketNow ℕ) (qs : List TableCall) → Starts t start → Each (IsFor start) qs → Mirrors t s c → Follows t s c qs
+follows : (t : Shape) (s : State) (start c : Contents BucketNow PoolNow) (qs : List TableCall) → Starts t start → Each (IsFor start) qs → Mirrors t s c → Follows t s c qs
 unfolding history_from LegalFrom left_by
 follows t s start c [] st each m = record { legal = tt; left = m }
 follows t s start c (q ∷ qs) st each m =
@@ -210,19 +216,20 @@ follows t s start c (q ∷ qs) st each m =
 same_part : (size b : ℕ) → part size map.empty b ≡ map.empty
 same_part size b = no_rows_in size b
 
-pub mirrors_start : (t : Shape) (start : Contents BucketNow ℕ) → Starts t start → Mirrors t map.empty start
+pub mirrors_start : (t : Shape) (start : Contents BucketNow PoolNow) → Starts t start → Mirrors t map.empty start
 unfolding sum_below
 mirrors_start t start st =
     let none : used t.size map.empty ≡ 0 = sum_zero (λ b. map.len (part t.size map.empty b) - 1) t.size (λ b. ap (λ n. n - 1) (no_len t.size b)) in
-    let pool : start.pool ≡ t.pool = st.1 in
+    let pool : start.pool.spare ≡ t.pool = ap (λ (p : PoolNow). p.spare) st.1 in
     record {
       long = ap (λ (l : List BucketNow). length l) st.0 ∙ length-replicate t.size (empty_bucket t.columns);
       buckets = λ b lt. ap (λ (l : List BucketNow). slice_get l b) st.0 ∙ get_replicate t.size b (empty_bucket t.columns) lt ∙ ap (λ (r : State). Some (record { columns = t.columns; rows = r })) (sym (same_part t.size b));
       spare = omega (arith, none, pool);
+      room = ap (λ (p : PoolNow). p.room) st.1;
       count = st.2 ∙ sym (len-empty (slice_cmp nat_cmp) (List Value));
     }
 
-pub is_history : (t : Shape) (start : Contents BucketNow ℕ) (qs : List TableCall) → Starts t start → Each (IsFor start) qs → IsHistory t start qs
+pub is_history : (t : Shape) (start : Contents BucketNow PoolNow) (qs : List TableCall) → Starts t start → Each (IsFor start) qs → IsHistory t start qs
 is_history t start qs st each = let f = follows t map.empty start start qs st each (mirrors_start t start st) in record { legal = f.legal; left = f.left }
 
 pub histories_are_legal : HistoriesAreLegal

@@ -8,7 +8,7 @@ use Rattle.sw_column.specs.declared.column.Column.{Column}
 use Rattle.sw_column.specs.Columns.{IsSchema}
 use Rattle.sw_column.specs.Fit.{call_fault}
 use Rattle.sw_table_laws.specs.Table.{Step, bucket}
-use Rattle.sw_table_laws.specs.Buckets.{BucketNow, bucket_step, asks_pool, spare_after}
+use Rattle.sw_table_laws.specs.Buckets.{BucketNow, PoolNow, spare_in, bucket_step, asks_pool, pool_left}
 use Rattle.sw_table_laws.specs.Laws.{key_of}
 use Rattle.sw_rowlock.specs.declared.calls.Change.{Change}
 use Rattle.sw_rowlock.specs.declared.calls.Change.TheVariants.{Same, More, Less}
@@ -38,33 +38,33 @@ abbrev pub change_from : ℕ → ℕ → Change
 change_from n m = if nat_lt n m then More else if nat_lt m n then Less else Same
 
 -- what a step in a bucket does
-abbrev pub done_in : BucketNow → Option ℕ → Step → Done BucketNow ℕ Answer
+abbrev pub done_in : BucketNow → Option PoolNow → Step → Done BucketNow PoolNow Answer
 done_in b pool step = record {
   reply = (step.reply, step.cells);
   change = change_from (map.len b.rows) (map.len step.state);
   bucket = Some (record b { rows = step.state });
-  pool = spare_after pool (map.len b.rows) (map.len step.state);
+  pool = pool_left pool (map.len b.rows) (map.len step.state);
 }
 
 -- what a call does by its bucket, the spare rows, and the number of rows: a call without a key counts the rows
-abbrev pub call_does : TableCall → Option BucketNow → Option ℕ → ℕ → Done BucketNow ℕ Answer
+abbrev pub call_does : TableCall → Option BucketNow → Option PoolNow → ℕ → Done BucketNow PoolNow Answer
 call_does q None pool count = record { reply = (replies.Count count, []); change = Same; bucket = None; pool = None }
-call_does q (Some b) pool count = done_in b pool (bucket_step q.columns b.rows pool q.call)
+call_does q (Some b) pool count = done_in b pool (bucket_step q.columns b.rows (spare_in pool) q.call)
 
 -- a bucket without rows
 abbrev pub empty_bucket : List Column → BucketNow
 empty_bucket cs = record { columns = cs; rows = map.empty }
 
 -- a Table without rows
-pub record IsEmptyTable (rows : List BucketNow) (pool : ℕ) : Type 0 where
+pub record IsEmptyTable (rows : List BucketNow) (pool : PoolNow) : Type 0 where
   pub columns : List Column
   pub size : ℕ
   pub empty : rows ≡ replicate size (empty_bucket columns)
   pub few : size ≤ 524288
-  pub spare : pool ≤ 524288
+  pub spare : pool.spare ≤ 524288
 
 -- a call that may be made on a Table that started so: it has its columns and size, and fits the columns
-pub record IsFor (start : Contents BucketNow ℕ) (q : TableCall) : Type 0 where
+pub record IsFor (start : Contents BucketNow PoolNow) (q : TableCall) : Type 0 where
   pub of : start.rows ≡ replicate q.size (empty_bucket q.columns)
   pub some : 0 < q.size
   pub schema : IsSchema q.columns

@@ -2,7 +2,7 @@
 use Rattle.std.specs.Prelude.{◌≡◌, ℕ, ◌+◌, ◌<◌, List, [], ◌∷◌, length, replicate, slice_get, Some}
 use Rattle.std.specs.FinMap as map
 use Rattle.sw_table_laws.specs.Table.{State, Shape, Entry, part, used, TStep}
-use Rattle.sw_table_laws.specs.Buckets.{BucketNow}
+use Rattle.sw_table_laws.specs.Buckets.{BucketNow, PoolNow}
 use Rattle.sw_rowlock.specs.declared.calls.Contents.{Contents}
 use Rattle.sw_table_join.specs.declared.table_call.TableCall.{TableCall}
 use Rattle.sw_table_join.specs.Calls.{empty_bucket}
@@ -17,12 +17,13 @@ abbrev pub history : Shape → List TableCall → List Entry
 history t qs = history_from t map.empty qs
 
 -- the shape of a Table that started so
-abbrev pub Starts : Shape → Contents BucketNow ℕ → Type 0
-Starts t start = (start.rows ≡ replicate t.size (empty_bucket t.columns)) × (start.pool ≡ t.pool) × (start.count ≡ 0) × (0 < t.size)
+abbrev pub Starts : Shape → Contents BucketNow PoolNow → Type 0
+Starts t start = (start.rows ≡ replicate t.size (empty_bucket t.columns)) × (start.pool ≡ record { spare = t.pool; room = t.pool }) × (start.count ≡ 0) × (0 < t.size)
 
 -- buckets, spare rows and number of rows are those of a state of the Table
-pub record Mirrors (t : Shape) (s : State) (c : Contents BucketNow ℕ) : Type 0 where
+pub record Mirrors (t : Shape) (s : State) (c : Contents BucketNow PoolNow) : Type 0 where
   pub long : length c.rows ≡ t.size
   pub buckets : (b : ℕ) → b < t.size → slice_get c.rows b ≡ Some (record { columns = t.columns; rows = part t.size s b })
-  pub spare : c.pool + used t.size s ≡ t.pool
+  pub spare : c.pool.spare + used t.size s ≡ t.pool
+  pub room : c.pool.room ≡ t.pool
   pub count : c.count ≡ map.len s

@@ -18,6 +18,16 @@ pub record BucketNow : Type 0 where
   pub columns : List Column
   pub rows : State
 
+-- the pool: how many rows are spare, and how many it has room for
+pub record PoolNow : Type 0 where
+  pub spare : ℕ
+  pub room : ℕ
+
+-- the spare rows of a pool that was asked
+abbrev pub spare_in : Option PoolNow → Option ℕ
+spare_in None = None
+spare_in (Some p) = Some p.spare
+
 -- the pool was asked, and has a spare row
 abbrev pub has_spare : Option ℕ → Bool
 has_spare None = false
@@ -63,7 +73,7 @@ asks_pool cs rows (Incr key name by) = fits (size_of cs name) (number_of cs (row
 asks_pool cs rows (Decr key name by) = fits (size_of cs name) (number_of cs (row_in cs rows key) name -ℤ by) && write_asks rows key
 asks_pool cs rows Count = false
 
--- the spare rows after a bucket of n rows has m: each row but a bucket's first is one of the pool
-abbrev pub spare_after : Option ℕ → ℕ → ℕ → Option ℕ
-spare_after None n m = None
-spare_after (Some p) n m = Some (p + (n - 1) - (m - 1))
+-- the pool after a bucket of n rows has m: each row but a bucket's first is one of the pool
+abbrev pub pool_left : Option PoolNow → ℕ → ℕ → Option PoolNow
+pool_left None n m = None
+pool_left (Some p) n m = Some (record p { spare = p.spare + (n - 1) - (m - 1) })
