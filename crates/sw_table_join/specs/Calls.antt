@@ -63,9 +63,10 @@ pub record IsEmptyTable (rows : List BucketNow) (pool : PoolNow) : Type 0 where
   pub few : size ≤ 524288
   pub spare : pool.spare ≤ 524288
 
--- a call that may be made on a Table that started so: it has its columns and size, and fits the columns
-pub record IsFor (start : Contents BucketNow PoolNow) (q : TableCall) : Type 0 where
+-- a call that may have the place on a Table that started so: it has its columns and size, fits the columns, and there is such a place
+pub record IsFor (start : Contents BucketNow PoolNow) (at : ℕ) (q : TableCall) : Type 0 where
   pub of : start.rows ≡ replicate q.size (empty_bucket q.columns)
   pub some : 0 < q.size
   pub schema : IsSchema q.columns
   pub fit : call_fault q.columns q.call ≡ None
+  pub room : at < start.pool.last_call

@@ -18,10 +18,11 @@ pub record BucketNow : Type 0 where
   pub columns : List Column
   pub rows : State
 
--- the pool: how many rows are spare, and how many it has room for
+-- the pool: how many rows are spare, and how many it has room for; it also keeps how many calls its Table may make
 pub record PoolNow : Type 0 where
   pub spare : ℕ
   pub room : ℕ
+  pub last_call : ℕ
 
 -- the spare rows of a pool that was asked
 abbrev pub spare_in : Option PoolNow → Option ℕ
