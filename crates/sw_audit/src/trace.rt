@@ -1,12 +1,12 @@
-// A trace: the Table that it speaks of, and its calls in the order in which they were written down.
+//! A trace: the Table that it speaks of, and its calls in the order in which they were written down.
 
 ghost use Rattle.std.specs.Prelude.{◌≡◌, [], ◌∷◌, ◌++◌, length, OnOk, OnErr};
 
 use std::alloc::Global;
 use std::marker::Model;
+use sw_base::{Call, OutOfMemory};
 use sw_call::Replied;
 use sw_column::Schema;
-use sw_data::{Call, OutOfMemory};
 
 /// A line of a trace: a call with its place among all calls, who made it, and what it came to.
 #[derive(Drop)]

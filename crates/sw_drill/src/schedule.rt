@@ -1,11 +1,11 @@
-// What a schedule says, line by line.
+//! What a schedule says, line by line.
 
 ghost use Rattle.std.specs.Prelude.{◌≡◌, [], ◌∷◌, ◌++◌, OnOk, OnErr};
 
 use crate::pairs::Pairs;
 use std::alloc::Global;
 use std::marker::Model;
-use sw_data::OutOfMemory;
+use sw_base::OutOfMemory;
 use sw_record::{ActorId, Step};
 
 /// A line of a schedule. One line may stand for many steps.

@@ -5,12 +5,12 @@ use Rattle.std.specs.Str.{bytes_eq}
 use Rattle.std.specs.FinMap as map
 use Rattle.std.proofs.Math.Pow.{pow_mono}
 use Rattle.std.proofs.lemmas.Bool.Decides.{nat_tests}
-use Rattle.sw_data.specs.declared.table.Value.{Value}
+use Rattle.sw_base.specs.declared.table.Value.{Value}
 use Rattle.sw_column.specs.declared.column.Column.{Column}
 use Rattle.sw_column.specs.declared.column.Kind.{Kind}
 use Rattle.sw_column.specs.declared.column.Kind.TheVariants as kinds
 use Rattle.std.specs.List.{list_all}
-use Rattle.sw_data.specs.declared.table.Reply.TheVariants.{Range}
+use Rattle.sw_base.specs.declared.table.Reply.TheVariants.{Range}
 use Rattle.sw_column.specs.Columns.{place, column_of, is_size, is_name, is_column, IsSchema}
 use Rattle.sw_column.specs.Fit.{fits, counter_fault, counter_kind}
 use Rattle.sw_column.specs.Values.{blank, blank_value}

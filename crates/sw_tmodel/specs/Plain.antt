@@ -1,13 +1,13 @@
 use Rattle.std.specs.Prelude.{◌≡◌, ℕ, zero, suc, ◌+◌, ◌*◌, ◌/◌, List, Option, Some, None, Result, Ok, Err, nat_eq, nat_lt, if◌then◌else◌}
-use Rattle.sw_data.specs.declared.table.Value.{Value}
-use Rattle.sw_data.specs.declared.table.Call.{Call}
-use Rattle.sw_data.specs.declared.table.Reply.{Reply}
-use Rattle.sw_data.specs.declared.table.Reply.TheVariants as replies
-use Rattle.sw_data.specs.declared.table.CallFault.{CallFault}
-use Rattle.sw_data.specs.declared.table.CallFault.TheVariants.{Spent}
+use Rattle.sw_base.specs.declared.table.Value.{Value}
+use Rattle.sw_base.specs.declared.table.Call.{Call}
+use Rattle.sw_base.specs.declared.table.Reply.{Reply}
+use Rattle.sw_base.specs.declared.table.Reply.TheVariants as replies
+use Rattle.sw_base.specs.declared.table.CallFault.{CallFault}
+use Rattle.sw_base.specs.declared.table.CallFault.TheVariants.{Spent}
 use Rattle.sw_column.specs.declared.column.Column.{Column}
 use Rattle.sw_column.specs.Fit.{or_else, call_fault}
-use Rattle.sw_ports.specs.declared.shelf.Placed.{Placed}
+use Rattle.sw_port_shelf.specs.declared.shelf.Placed.{Placed}
 use Rattle.sw_tmodel.specs.Table.{State, Shape, Step, TStep}
 
 -- a size doubled so many times from 64, as long as it is below n

@@ -1,5 +1,5 @@
-// What readers may rely on of the Table's definition, each a law over all calls and all rows. The functions do nothing
-// and carry the laws as their contracts.
+//! What readers may rely on of the Table's definition, each a law over all calls and all rows. The functions do nothing
+//! and carry the laws as their contracts.
 ghost use Rattle.sw_tmodel.specs.Laws.{KeepsRows, KeepsOthers, FullIsFull, SetThenIncr, CountCounts, OtherBuckets, BucketDecides, CountFollows, PoolFollows, PoolStays, RowsBounded, SizeIsRaised};
 
 /// A call that fits the columns leaves rows with a value for each column, which fits it.

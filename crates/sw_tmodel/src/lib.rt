@@ -1,5 +1,5 @@
-// The plain Table: a list of rows and what a call does with them, by the very definition that the shared Table is held
-// against. It stands above the columns; the core of the server and the reader of traces stand on it.
+//! The plain Table: a list of rows and what a call does with them, by the very definition that the shared Table is held
+//! against. It stands above the columns; the core of the server and the reader of traces stand on it.
 #![tactic(auto)]
 
 mod buckets;
