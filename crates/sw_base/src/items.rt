@@ -1,3 +1,4 @@
+//! Lists of values, and values that can be copied as far as memory allows.
 ghost use Rattle.std.specs.Prelude.{◌≡◌, ◌<◌, List, [], ◌∷◌, ◌++◌, length, slice_get, OnOk, OnErr, IfOk};
 
 use crate::out_of_memory::OutOfMemory;
@@ -12,7 +13,7 @@ pub trait TryCopy {
 }
 
 /// A list, which contracts see as the list of its items.
-#[derive(Drop)]
+#[derive(Drop, Debug)]
 pub struct Items<T> {
     items: Vec<T>,
 }
@@ -55,6 +56,13 @@ impl<T> Items<T> {
         ensures { result.now ≡ self.now }
     {
         self.items.as_slice()
+    }
+
+    /// The items, given away and not copied.
+    pub fn into_vec(self) -> Vec<T>
+        ensures { result.items ≡ self }
+    {
+        self.items
     }
 }
 

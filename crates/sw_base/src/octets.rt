@@ -1,3 +1,4 @@
+//! Lists of bytes.
 ghost use Rattle.std.specs.Prelude.{◌≡◌, ◌<◌, List, [], ◌∷◌, ◌++◌, length, slice_get, OnOk, OnErr, IfOk};
 
 use crate::items::{Items, TryCopy};

@@ -1,3 +1,4 @@
+//! Want of memory.
 use std::alloc::{AllocError, AllocFailed};
 
 /// Memory ran out. It is an answer of its own, merged with no other, and may come at any call that grows something.

@@ -1,9 +1,10 @@
+//! Numbers of sessions.
 ghost use Rattle.std.specs.Prelude.{◌≡◌, ◌<◌, MatchOption};
 
 use std::marker::Model;
 
 /// The number of a session, which is never 0. Numbers rise over the life of a server and never return.
-#[derive(Clone, Copy, Debug)]
+#[derive(Clone, Copy, Debug, PartialEq, Eq)]
 pub struct Session {
     number: u32,
 }

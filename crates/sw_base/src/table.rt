@@ -1,3 +1,4 @@
+//! The calls of the shared Table, and what they come to.
 use crate::items::{Items, TryCopy};
 use crate::octets::{Key, Name, Octets};
 use crate::out_of_memory::OutOfMemory;
@@ -16,7 +17,7 @@ pub type Pairs = Items<(Name, Value)>;
 pub type Cells = Items<Value>;
 
 /// A call of the Table.
-#[derive(Drop)]
+#[derive(Drop, Debug)]
 pub enum Call {
     /// Writes these columns of a row; a missing row starts with 0 and empty texts.
     Set(Key, Pairs),
