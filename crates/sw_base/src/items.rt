@@ -95,3 +95,11 @@ impl<T: TryCopy + Drop> TryCopy for Items<T> {
         self.copy()
     }
 }
+
+impl<A: TryCopy + Drop, B: TryCopy + Drop> TryCopy for (A, B) {
+    fn try_copy(&self) -> Result<(A, B), OutOfMemory> {
+        let first = self.0.try_copy()?;
+        let second = self.1.try_copy()?;
+        Ok((first, second))
+    }
+}

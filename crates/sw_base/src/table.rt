@@ -87,14 +87,6 @@ impl TryCopy for Value {
     }
 }
 
-impl TryCopy for (Name, Value) {
-    fn try_copy(&self) -> Result<(Name, Value), OutOfMemory> {
-        let name = self.0.copy()?;
-        let value = self.1.try_copy()?;
-        Ok((name, value))
-    }
-}
-
 impl TryCopy for Call {
     fn try_copy(&self) -> Result<Call, OutOfMemory> {
         match self {

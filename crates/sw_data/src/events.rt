@@ -73,11 +73,3 @@ impl TryCopy for Given {
         }
     }
 }
-
-impl TryCopy for (Given, Act) {
-    fn try_copy(&self) -> Result<(Given, Act), OutOfMemory> {
-        let given = self.0.try_copy()?;
-        let act = self.1.try_copy()?;
-        Ok((given, act))
-    }
-}
