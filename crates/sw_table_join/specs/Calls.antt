@@ -1,9 +1,9 @@
 -- What a call does to what its seat holds: the bucket of its key, and the spare rows of the pool where it asks for them.
 use Rattle.std.specs.Prelude.{◌≡◌, ℕ, ◌≤◌, ◌<◌, List, [], replicate, Option, Some, None, Bool, false, nat_lt, if◌then◌else◌}
 use Rattle.std.specs.FinMap as map
-use Rattle.sw_data.specs.declared.table.Value.{Value}
-use Rattle.sw_data.specs.declared.table.Reply.{Reply}
-use Rattle.sw_data.specs.declared.table.Reply.TheVariants as replies
+use Rattle.sw_base.specs.declared.table.Value.{Value}
+use Rattle.sw_base.specs.declared.table.Reply.{Reply}
+use Rattle.sw_base.specs.declared.table.Reply.TheVariants as replies
 use Rattle.sw_column.specs.declared.column.Column.{Column}
 use Rattle.sw_column.specs.Columns.{IsSchema}
 use Rattle.sw_column.specs.Fit.{call_fault}
