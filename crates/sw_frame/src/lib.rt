@@ -11,6 +11,3 @@ pub use cutter::Cutter;
 pub use framing::Framing;
 pub use laws::{calls_give_the_cut, cut_is_exact, cut_of_joined, cut_of_more};
 pub use next::Next;
-
-#[cfg(test)]
-mod tests;

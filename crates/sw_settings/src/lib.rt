@@ -15,6 +15,3 @@ pub use faults::SettingsFault;
 pub use pair::{Pair, SetValue};
 pub use settings::{Settings, from_pairs};
 pub use values::given;
-
-#[cfg(test)]
-mod tests;

@@ -1,7 +1,7 @@
 //! Calls on the plain board, by hand.
-use crate::{Board, Counts, Crew, PlainBoard};
 use std::test::Fail;
 use sw_base::Counter;
+use sw_port_board::{Board, Counts, Crew, PlainBoard};
 
 #[test]
 fn actors_take_turns_at_the_plain_board(rt: HostRuntime) -> Result<(), Fail> {
