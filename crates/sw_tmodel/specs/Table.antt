@@ -12,7 +12,7 @@ use Rattle.sw_base.specs.declared.table.Reply.TheVariants as replies
 use Rattle.sw_base.specs.declared.table.Reply.TheVariants.{Stored, Full, Found, Missing, Yes, No, Range}
 use Rattle.sw_column.specs.declared.column.Column.{Column}
 use Rattle.sw_column.specs.Hash.{hash}
-use Rattle.sw_column.specs.Fit.{fits}
+use Rattle.sw_column.specs.Fit.{fits, call_fault}
 use Rattle.sw_column.specs.Values.{blank}
 use Rattle.sw_tmodel.specs.Rows.{with_value, with_pairs, number_of, size_of}
 
@@ -125,10 +125,11 @@ unfoldable pub left_by : Shape → State → List Entry → State
 left_by t s [] = s
 left_by t s (e ∷ es) = left_by t (TStep t s e.call).state es
 
--- each call has the reply and the row of its step, from these rows on
+-- each call fits the columns and has the reply and the row of its step, from these rows on; a call that doesn't fit has
+-- no place
 unfoldable pub LegalFrom : Shape → State → List Entry → Type 0
 LegalFrom t s [] = Unit {0}
-LegalFrom t s (e ∷ es) = (e.reply ≡ (TStep t s e.call).reply) × (e.cells ≡ (TStep t s e.call).cells) × LegalFrom t (TStep t s e.call).state es
+LegalFrom t s (e ∷ es) = (call_fault t.columns e.call ≡ None) × (e.reply ≡ (TStep t s e.call).reply) × (e.cells ≡ (TStep t s e.call).cells) × LegalFrom t (TStep t s e.call).state es
 
 -- the calls with their replies are what the steps from no rows give
 abbrev pub Legal : Shape → List Entry → Type 0
