@@ -1,0 +1,6 @@
+mod Logs
+mod Orders
+mod Causes
+mod Sessions
+mod Bytes
+mod Ends
