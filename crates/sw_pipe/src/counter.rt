@@ -23,7 +23,7 @@ pub struct Counter {
 }
 
 impl Counter {
-    ghost use Rattle.std.specs.Prelude.{◌≡◌, ℕ, ◌+◌, ◌-◌, ◌*◌, ◌≤◌, ◌<◌, true, IfOk};
+    ghost use Rattle.std.specs.Prelude.{◌≡◌, ℕ, ◌+◌, ◌-◌, ◌*◌, ◌≤◌, ◌<◌, true, false, IfOk};
     ghost use Rattle.sw_pipe.specs.Counters.{counter_id, counter_senders};
     ghost use Rattle.sw_pipe.specs.Tallies.{tally, tally_at, joined, word_of, IsShareOf};
 
@@ -67,7 +67,9 @@ impl Counter {
         requires share { IsShareOf (counter_id self.now) share.old }
         ensures share { IsShareOf (counter_id self.now) share.new }
         ensures same { ((tally_at share.new).parts ≡ (tally_at share.old).parts) × ((tally_at share.new).count ≡ (tally_at share.old).count) }
+        ensures all { (tally_at share.new).at ≡ counter_senders self.now }
         ensures seen { result ≡ true → many ≤ (tally_at share.new).seen }
+        ensures unseen { result ≡ false → (tally_at share.new).seen < many }
     {
         self.table.shared.load::<Starts>(share, 0);
         let mut sum = 0u64;
