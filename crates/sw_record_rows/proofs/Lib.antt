@@ -4,3 +4,4 @@ mod Causes
 mod Sessions
 mod Bytes
 mod Ends
+mod Rightly

@@ -2,6 +2,9 @@
 //! a rule holds of everything; and a record of two workers and three links that is right.
 #![tactic(auto)]
 
+ghost use Rattle.std.specs.Prelude.{[], ◌∷◌, true, false};
+ghost use Rattle.sw_record.specs.Right.{Right};
+ghost use Rattle.sw_record_rows.specs.Rows.{terms, right_record};
 ghost use Rattle.sw_record_rows.specs.Refused.{RefusedLogs, RefusedOrders, RefusedCauses, RefusedSessions, RefusedBytes, RefusedEnds, Undrained};
 
 /// Each wrong record is refused.
@@ -14,4 +17,10 @@ pub fn wrong_records_are_refused()
     ensures bytes { RefusedBytes }
     ensures ends { RefusedEnds }
     ensures drained { Undrained }
+{}
+
+/// A record of two workers and three links is right: one link is at its end, one lives, and one waits.
+#[tactic(auto, using(crate::proofs::Rightly::a_right_record))]
+pub fn a_record_of_two_workers_is_right()
+    ensures { Right terms right_record (true ∷ false ∷ false ∷ []) }
 {}
