@@ -79,17 +79,20 @@ refusals_in None = 0
 refusals_in (Some (act, Sent)) = 0
 refusals_in (Some (act, NoSession seen)) = 1
 
+abbrev one_answer : List (Act × Answer)
+one_answer = (Send 2 (99 ∷ []), Sent) ∷ []
+
 -- what was answered was sent to session 2
-one_sent : (s : ℕ) (b : List ℕ) (n : ℕ) → slice_get ((Send 2 (99 ∷ []), Sent) ∷ []) n ≡ Some (Send s b, Sent) → 2 ≡ s
+one_sent : (s : ℕ) (b : List ℕ) (n : ℕ) → slice_get one_answer n ≡ Some (Send s b, Sent) → 2 ≡ s
 one_sent s b zero e = ap sent_to e
 one_sent s b (suc n) e = absurd (none_there _ e)
 
-none_refused : (s seen : ℕ) (b : List ℕ) (n : ℕ) → slice_get ((Send 2 (99 ∷ []), Sent) ∷ []) n ≡ Some (Send s b, NoSession seen) → ⊥
+none_refused : (s seen : ℕ) (b : List ℕ) (n : ℕ) → slice_get one_answer n ≡ Some (Send s b, NoSession seen) → ⊥
 none_refused s seen b zero e = let f : ◌≡◌ {A = ℕ} 0 1 = ap refusals_in e in omega (arith, f)
 none_refused s seen b (suc n) e = none_there _ e
 
 none_at : {A : Type 0} (x : A) (n : ℕ) → slice_get [] n ≡ Some x → ⊥
-none_at x n e = let f : ◌≡◌ {A = Option A} None (Some x) = e in cc
+none_at {A = A} x n e = let f : ◌≡◌ {A = Option A} None (Some x) = e in cc
 
 abbrev AllKept : Log → Type 0
 AllKept [] = Unit {0}
@@ -102,14 +105,14 @@ kept_at (z ∷ before) x y behind h = kept_at before x y behind h.1
 causes : CausesRight terms right_record ends
 causes =
     record {
-      cause = by_place (λ at l. (e : Ended) → l.state ≡ Over e → ShowsCause terms.framing l.pieces (slice_get ends at) e.cause)
-          (λ e is. let f : said 1 1 2 ≡ e = cc in subst (λ (x : Ended). ShowsCause terms.framing over.pieces (Some true) x.cause) f refl)
-          (λ e is. absurd (let f : Live (said 2 2 0) ≡ Over e = is in cc))
-          (λ e is. absurd (let f : Waiting ≡ Over e = is in cc));
-      uid = by_place (λ at l. (e : Ended) → accepted_in l.state ≡ Some e → e.uid ≡ 0)
-          (λ e is. let f : said 1 1 2 ≡ e = cc in subst (λ (x : Ended). x.uid ≡ 0) f refl)
-          (λ e is. let f : said 2 2 0 ≡ e = cc in subst (λ (x : Ended). x.uid ≡ 0) f refl)
-          (λ e is. absurd (none_there e is));
+      cause = λ at l e there. by_place (λ at l. l.state ≡ Over e → ShowsCause terms.framing l.pieces (slice_get ends at) e.cause)
+          (λ is. let f : said 1 1 2 ≡ e = cc in subst (λ (x : Ended). ShowsCause terms.framing over.pieces (Some true) x.cause) f refl)
+          (λ is. absurd (let f : Live (said 2 2 0) ≡ Over e = is in cc))
+          (λ is. absurd (let f : Waiting ≡ Over e = is in cc)) at l there;
+      uid = λ at l e there. by_place (λ at l. accepted_in l.state ≡ Some e → e.uid ≡ 0)
+          (λ is. let f : said 1 1 2 ≡ e = cc in subst (λ (x : Ended). x.uid ≡ 0) f refl)
+          (λ is. let f : said 2 2 0 ≡ e = cc in subst (λ (x : Ended). x.uid ≡ 0) f refl)
+          (λ is. absurd (none_there e is)) at l there;
       sent = by_log (λ k log. (s : ℕ) (b : List ℕ) → HasAnswer log (Send s b) Sent → (l : LinkRecord) × HasLink right_record.links s l)
           (λ s b has. (live, record { at = 1; there = refl; session = ap Some (one_sent s b has.0 has.1) }))
           (λ s b has. absurd (none_at _ has.0 has.1));
@@ -122,10 +125,10 @@ causes =
 sessions : SessionsOnce terms right_record
 sessions =
     record {
-      over = by_place (λ at l. (e : Ended) → l.state ≡ Over e → (s : ℕ) × (e.session ≡ Some s))
-          (λ e is. let f : said 1 1 2 ≡ e = cc in (1, ap (λ (x : Ended). x.session) (sym f)))
-          (λ e is. absurd (let f : Live (said 2 2 0) ≡ Over e = is in cc))
-          (λ e is. absurd (let f : Waiting ≡ Over e = is in cc));
+      over = λ at l e there. by_place (λ at l. l.state ≡ Over e → (s : ℕ) × (e.session ≡ Some s))
+          (λ is. let f : said 1 1 2 ≡ e = cc in (1, ap (λ (x : Ended). x.session) (sym f)))
+          (λ is. absurd (let f : Live (said 2 2 0) ≡ Over e = is in cc))
+          (λ is. absurd (let f : Waiting ≡ Over e = is in cc)) at l there;
       above = by_session (λ s l. 0 < s) (lit< tt) (lit< tt);
       rise = λ i j l k s u a b. by_place (λ i l. session_of l.state ≡ Some s → session_of k.state ≡ Some u → i < j → s < u)
           (λ e. by_place (λ j k. session_of k.state ≡ Some u → 0 < j → s < u) (λ f lt. absurd (omega (arith, lt))) (λ f lt. let x : 1 ≡ s = cc in let y : 2 ≡ u = cc in omega (arith, x, y)) (λ f lt. absurd (none_there u f)) j k b)
@@ -135,10 +138,10 @@ sessions =
           (λ is. let f : said 1 1 2 ≡ e = cc in subst (λ (x : Ended). x.session ≡ Some s → x.fd ≡ s % 4) f (λ g. let y : 1 ≡ s = cc in subst (λ (n : ℕ). 1 ≡ n % 4) y refl))
           (λ is. let f : said 2 2 0 ≡ e = cc in subst (λ (x : Ended). x.session ≡ Some s → x.fd ≡ s % 4) f (λ g. let y : 2 ≡ s = cc in subst (λ (n : ℕ). 2 ≡ n % 4) y refl))
           (λ is. absurd (none_there e is)) at l there;
-      address = by_place (λ at l. (e : Ended) → accepted_in l.state ≡ Some e → e.ip ≡ l.ip)
-          (λ e is. let f : said 1 1 2 ≡ e = cc in subst (λ (x : Ended). x.ip ≡ 0) f refl)
-          (λ e is. let f : said 2 2 0 ≡ e = cc in subst (λ (x : Ended). x.ip ≡ 0) f refl)
-          (λ e is. absurd (none_there e is));
+      address = λ at l e there. by_place (λ at l. accepted_in l.state ≡ Some e → e.ip ≡ l.ip)
+          (λ is. let f : said 1 1 2 ≡ e = cc in subst (λ (x : Ended). x.ip ≡ 0) f refl)
+          (λ is. let f : said 2 2 0 ≡ e = cc in subst (λ (x : Ended). x.ip ≡ 0) f refl)
+          (λ is. absurd (none_there e is)) at l there;
       one_lives = λ i j l k e f a b. by_place (λ i l. l.state ≡ Live e → k.state ≡ Live f → e.fd ≡ f.fd → i ≡ j)
           (λ is. absurd (let g : Over (said 1 1 2) ≡ Live e = is in cc))
           (λ is. by_place (λ j k. k.state ≡ Live f → e.fd ≡ f.fd → 1 ≡ j) (λ is. absurd (let g : Over (said 1 1 2) ≡ Live f = is in cc)) (λ is same. refl) (λ is. absurd (let g : Waiting ≡ Live f = is in cc)) j k b)
@@ -234,7 +237,7 @@ by_over P a s l e has is = by_session (λ s l. l.state ≡ Over e → P s l e)
     (λ is. absurd (let f : Live (said 2 2 0) ≡ Over e = is in cc)) s l has is
 
 whole : Whole terms right_record own
-unfolding cut
+unfolding cut own
 whole =
     record {
       dispatched = by_over (λ s l e. e.dispatched ≤ length (packets_on terms l)) (lit≤ tt);

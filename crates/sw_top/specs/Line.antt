@@ -1,6 +1,6 @@
 -- How a command line ends.
-use Rattle.std.specs.Prelude.{◌≡◌, ◌⊎◌, ℕ, List, map, drop, string_bytes, Option, Some, None}
-use Rattle.std.specs.Global.{Vec, String}
+use Rattle.std.specs.Prelude.{◌≡◌, ◌⊎◌, ℕ, List, map, drop, String, string_bytes, Option, Some, None}
+use Rattle.std.specs.Global.{Vec, Global}
 use Rattle.sw_top.specs.declared.status.Status.{Status}
 use Rattle.sw_top.specs.declared.status.Status.TheVariants as statuses
 use Rattle.sw_top.specs.Statuses.{status_number}
@@ -16,6 +16,6 @@ pub record EndsWords (words : List (List ℕ)) (s : FromSource) (k : FromSink) (
   pub complete : IsComplete words s k status
 
 -- the arguments behind the first are the words; where memory runs out before they are, the number is that of OutOfMemory
-abbrev pub EndsLine : Option (Vec String) → FromSource → FromSink → ℕ → Type 0
+abbrev pub EndsLine : Option (Vec (String Global)) → FromSource → FromSink → ℕ → Type 0
 EndsLine None s k number = number ≡ status_number statuses.OutOfMemory
 EndsLine (Some arguments) s k number = EndsWords (map string_bytes (drop 1 arguments.items)) s k number ⊎ (number ≡ status_number statuses.OutOfMemory)
