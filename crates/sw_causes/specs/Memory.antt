@@ -38,6 +38,10 @@ failing_writes s = s.failing.items
 abbrev pub writes_made : MemorySink → ℕ
 writes_made s = s.calls
 
+-- a write found no memory
+abbrev pub sink_lost : MemorySink → Bool
+sink_lost s = s.lost
+
 -- the number of the next write stands in the list of those that fail
 abbrev pub FailsNextWrite : MemorySink → Type 0
 FailsNextWrite s = Contains (failing_writes s) (writes_made s)

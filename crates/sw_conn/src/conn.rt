@@ -115,8 +115,8 @@ impl Conn {
         }
     }
 
-    /// Serves the connection: writes what is unsent, and then makes its next move. At `OutOfMemory` the record
-    /// shows the same of it as before, but that what was unsent may have been written.
+    /// Serves the connection: writes what is unsent, and then makes its next move. At `OutOfMemory` all but its cutter
+    /// is as before, or what was unsent was written and all else but its cutter is as before.
     pub fn serve(&mut self, alloc: Global, script: &mut Script) -> Result<Choice, OutOfMemory>
         ensures choice { IfOk result (λ r. r ≡ (serve self.old (script_read READ_SIZE script.old)).choice) }
         ensures conn { OnOk result (self.new ≡ (serve self.old (script_read READ_SIZE script.old)).conn) }

@@ -19,9 +19,9 @@ use Rattle.sw_record.specs.declared.record.LinkRecord.{LinkRecord}
 use Rattle.sw_record.specs.declared.record.LinkState.TheVariants.{Waiting, Over}
 use Rattle.sw_record.specs.Logs.{events_of, told_of, packets_in}
 use Rattle.sw_record.specs.Sends.{Sends, Merge}
-use Rattle.sw_record.specs.Terms.{HasLink, IsPrefix, session_of, target, numbered}
+use Rattle.sw_record.specs.Terms.{HasLink, IsPrefix, session_of, target, numbered, accepted_in}
 use Rattle.sw_record.specs.Bytes.{Owned, Own, EndsDone, StandsLate}
-use Rattle.sw_record.specs.Ends.{IsToldWhole, Drained, accepted_in, accepted}
+use Rattle.sw_record.specs.Ends.{IsToldWhole, Drained, accepted}
 use Rattle.sw_record.specs.Causes.{HasAnswer, ShowsCause}
 use Rattle.sw_record.specs.Right.{Right}
 use Rattle.sw_laws.specs.Messages.{events_in, from_worker, before_fresh, behind_fresh, send_in, sends_in, bye_in, byes_in}
@@ -188,7 +188,7 @@ told_whole framing l ended log q n f =
     }
 
 said_end : (framing : Framing) (l : LinkRecord) (seen : Bool) (ended : Ended) (taken : List (Msg Link ℕ)) (es : List Event) → IsEnd framing l seen ended taken es → SaidOf l.state l.ip
-said_end framing l seen ended taken es h = rw (h.state, h.ended_is) (refl, refl, refl)
+said_end framing l seen ended taken es h = rw (h.state, h.ended_is) (refl, refl, refl, refl)
 
 session_end : (framing : Framing) (l : LinkRecord) (seen : Bool) (ended : Ended) (taken : List (Msg Link ℕ)) (es : List Event) → IsEnd framing l seen ended taken es → session_of l.state ≡ Some 1
 session_end framing l seen ended taken es h = rw (h.state, h.ended_is) refl
@@ -237,6 +237,7 @@ drained_over framing l seen ended log taken wt wp es h j =
     let count : ended.dispatched ≡ length bs = ap (λ (x : Ended). x.dispatched) h.ended_is in
     let w : IsToldWhole (core_terms framing) 1 l ended log = told_whole framing l ended log (said_behind log taken wt wp es j h.later) count f in
     record {
+      logs = refl;
       handled = λ u k e has o x there. let same : k ≡ l = one_is l k has.at has.there in
           rw (accepted_end framing l seen ended taken es h k e same o, one_is log x (target (core_terms framing) u) there, same_session l 1 is u k has, same) w.packets;
       told = λ u k has x there. rw (one_is log x (target (core_terms framing) u) there, same_session l 1 is u k has) (w.connect, w.closed);
@@ -258,6 +259,7 @@ right_none framing links log at_end none waits few =
     let empty : (n : ℕ) (x : List (Given × Act)) → slice_get (log ∷ []) n ≡ Some x → x ≡ [] = λ n x there. one_is log x n there ∙ none in
     record {
       orderly = record {
+        logs = refl;
         dialogues = λ n x there. rw (empty n x there) tt;
         in_order = record {
           at_target = λ u k has x there. absurd (no_link u k has);
@@ -266,6 +268,7 @@ right_none framing links log at_end none waits few =
         };
         causes = record {
           cause = λ at k e there is. absurd (no_over at k e there is);
+          uid = λ at k e there a. absurd (no_accepted at k e there a);
           sent = λ n x there u b has. absurd (no_answer u b Sent (subst (λ (y : List (Given × Act)). HasAnswer y (SendAct u b) Sent) (empty n x there) has));
           refused = λ n x there u seen b has. absurd (no_answer u b (NoSession seen) (subst (λ (y : List (Given × Act)). HasAnswer y (SendAct u b) (NoSession seen)) (empty n x there) has));
           own = λ u x there before behind given act b seen is own. not_empty before (given, SendAct u b) ((AnswerGiven (NoSession seen), act) ∷ behind) (sym is ∙ empty (target (core_terms framing) u) x there);

@@ -12,9 +12,9 @@ use Rattle.sw_record.specs.declared.record.LinkState.{LinkState}
 use Rattle.sw_record.specs.declared.record.LinkState.TheVariants.{Waiting, Live, Over}
 use Rattle.sw_record.specs.declared.record.Record.{Record}
 use Rattle.sw_record.specs.Logs.{events_of, Dialogue}
-use Rattle.sw_record.specs.Terms.{Terms, HasLink, IsPrefix, session_of, target}
+use Rattle.sw_record.specs.Terms.{Terms, HasLink, IsPrefix, session_of, target, accepted_in}
 use Rattle.sw_record.specs.Causes.{HasAnswer, ShowsCause}
-use Rattle.sw_record.specs.Ends.{SessionsOnce, accepted_in, with_accepted}
+use Rattle.sw_record.specs.Ends.{SessionsOnce, with_accepted}
 use Rattle.sw_record.specs.Right.{IsOrderly}
 use Rattle.sw_laws.specs.Said.{AllEchoed}
 use Rattle.sw_laws.specs.Story.{story, packets_of}
@@ -44,21 +44,25 @@ one_target t s e = rw e (mod_one (s % t.max_conn))
 abbrev pub one_link : LinkRecord → List (Given × Act) → Record
 one_link l log = record { links = l ∷ []; workers = log ∷ [] }
 
+-- the first session's descriptor, this address and no uid
+abbrev pub IsFirst : Ended → ℕ → Type 0
+IsFirst e ip = (e.session ≡ Some 1) × (e.fd ≡ 1) × (e.ip ≡ ip) × (e.uid ≡ 0)
+
 -- what is said of the link: it has the first session once it was accepted
 abbrev pub SaidOf : LinkState → ℕ → Type 0
 SaidOf Waiting ip = Unit {0}
-SaidOf (Live e) ip = (e.session ≡ Some 1) × (e.fd ≡ 1) × (e.ip ≡ ip)
-SaidOf (Over e) ip = (e.session ≡ Some 1) × (e.fd ≡ 1) × (e.ip ≡ ip)
+SaidOf (Live e) ip = IsFirst e ip
+SaidOf (Over e) ip = IsFirst e ip
 
 said_session : (state : LinkState) (ip s : ℕ) → SaidOf state ip → session_of state ≡ Some s → s ≡ 1
 said_session Waiting ip s h e = absurd (let k : None ≡ Some s = e in cc)
 said_session (Live x) ip s h e = let k : x.session ≡ Some s = e in let j : x.session ≡ Some 1 = h.0 in cc
 said_session (Over x) ip s h e = let k : x.session ≡ Some s = e in let j : x.session ≡ Some 1 = h.0 in cc
 
-said_accepted : (state : LinkState) (ip : ℕ) (e : Ended) → SaidOf state ip → accepted_in state ≡ Some e → (e.session ≡ Some 1) × (e.fd ≡ 1) × (e.ip ≡ ip)
+said_accepted : (state : LinkState) (ip : ℕ) (e : Ended) → SaidOf state ip → accepted_in state ≡ Some e → IsFirst e ip
 said_accepted Waiting ip e h a = absurd (let k : None ≡ Some e = a in cc)
-said_accepted (Live x) ip e h a = let k : x ≡ e = cc in subst (λ (y : Ended). (y.session ≡ Some 1) × (y.fd ≡ 1) × (y.ip ≡ ip)) k h
-said_accepted (Over x) ip e h a = let k : x ≡ e = cc in subst (λ (y : Ended). (y.session ≡ Some 1) × (y.fd ≡ 1) × (y.ip ≡ ip)) k h
+said_accepted (Live x) ip e h a = let k : x ≡ e = cc in subst (λ (y : Ended). IsFirst y ip) k h
+said_accepted (Over x) ip e h a = let k : x ≡ e = cc in subst (λ (y : Ended). IsFirst y ip) k h
 
 said_next : (state : LinkState) (ip n : ℕ) (e : Ended) → SaidOf state ip → slice_get (with_accepted (accepted_in state) []) n ≡ Some e → e.session ≡ Some (0 + n + 1)
 said_next Waiting ip n e h g = absurd (let k : None ≡ Some e = g in cc)
@@ -102,6 +106,7 @@ the_link l s is = record { at = 0; there = refl; session = is }
 pub orderly : (framing : Framing) (l : LinkRecord) (s : ℕ) (log : List (Given × Act)) (at_end : List Bool) → SaidOf l.state l.ip → IsTold framing l s log → ((e : Ended) → l.state ≡ Over e → ShowsCause framing l.pieces (slice_get at_end 0) e.cause) → IsOrderly (core_terms framing) (one_link l log) at_end
 orderly framing l s log at_end said t ends =
     record {
+      logs = refl;
       dialogues = λ k x there. subst Dialogue (sym (one_is log x k there)) t.dialogue;
       in_order = record {
         at_target = λ u k has x there.
@@ -114,6 +119,8 @@ orderly framing l s log at_end said t ends =
       };
       causes = record {
         cause = λ at k e there is. rw (one_at l k at there, one_is l k at there) (ends e (ap (λ (x : LinkRecord). x.state) (sym (one_is l k at there)) ∙ is));
+        uid = λ at k e there a. let same : k ≡ l = one_is l k at there in
+            (said_accepted l.state l.ip e said (ap (λ (x : LinkRecord). accepted_in x.state) (sym same) ∙ a)).3;
         sent = λ n x there u b has. sent_known u b (subst (λ (y : List (Given × Act)). HasAnswer y (Send u b) Sent) (one_is log x n there) has) (equal_or_not s u);
         refused = λ n x there u seen b has. absurd (never_refused x (subst AllEchoed (sym (one_is log x n there)) t.echoed) u seen b has);
         own = λ u x there before behind given act b seen is own. never_refused_at x before behind (subst AllEchoed (sym (one_is log x (target (core_terms framing) u) there)) t.echoed) given act u seen b is;

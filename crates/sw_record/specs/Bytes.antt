@@ -2,6 +2,8 @@
 use Rattle.std.specs.Prelude.{◌≡◌, ℕ, List, [], ◌∷◌, ◌++◌, length, slice_get, Some, None}
 use Rattle.std.specs.List.{concat}
 use Rattle.sw_data.specs.declared.events.Given.{Given}
+use Rattle.sw_data.specs.declared.events.Given.TheVariants.{Event as EventGiven, Answer as AnswerGiven}
+use Rattle.sw_data.specs.declared.events.Answer.TheVariants.{Sent, NoSession}
 use Rattle.sw_data.specs.declared.events.Act.{Act}
 use Rattle.sw_data.specs.declared.events.Act.TheVariants.{Done}
 use Rattle.sw_record.specs.declared.record.LinkRecord.{LinkRecord}
@@ -10,12 +12,24 @@ use Rattle.sw_record.specs.Logs.{told_of}
 use Rattle.sw_record.specs.Sends.{Sends, Merge}
 use Rattle.sw_record.specs.Terms.{HasLink, IsPrefix, IsSuffix, session_of}
 
--- these first sends to s stand before the log's first event of s
+-- what is given isn't the refusal of a send
+abbrev pub NoRefusal : Given → Type 0
+NoRefusal (EventGiven e) = Unit {0}
+NoRefusal (AnswerGiven Sent) = Unit {0}
+NoRefusal (AnswerGiven (NoSession seen)) = ⊥
+
+-- the act before these entries isn't refused by them
+abbrev pub NotRefusedBy : List (Given × Act) → Type 0
+NotRefusedBy [] = Unit {0}
+NotRefusedBy (x ∷ late) = NoRefusal x.0
+
+-- these first sends to s stand before the log's first event of s, as those very acts: none of them is refused later
 pub record StandsEarly (log : List (Given × Act)) (s : ℕ) (front : List (List ℕ)) : Type 0 where
   pub early : List (Given × Act)
   pub late : List (Given × Act)
   pub split : log ≡ early ++ late
   pub untold : told_of s early ≡ []
+  pub kept : NotRefusedBy late
   pub sends : IsPrefix front (Sends early s)
 
 -- a part of the log's sends to s without a gap, which leaves out at the front only what stands early

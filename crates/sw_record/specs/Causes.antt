@@ -16,7 +16,7 @@ use Rattle.sw_frame.specs.Cut.{cut}
 use Rattle.sw_record.specs.declared.record.LinkRecord.{LinkRecord}
 use Rattle.sw_record.specs.declared.record.LinkState.TheVariants.{Over}
 use Rattle.sw_record.specs.declared.record.Record.{Record}
-use Rattle.sw_record.specs.Terms.{Terms, HasLink, target}
+use Rattle.sw_record.specs.Terms.{Terms, HasLink, target, accepted_in}
 
 -- the acts of a log with their answers, behind this act
 abbrev pub answer_to : Act → Given → List (Act × Answer)
@@ -63,6 +63,8 @@ ShowsCause framing pieces at_end (BadLength n) = (cut framing pieces).fault ≡ 
 pub record CausesRight (t : Terms) (r : Record) (at_end : List Bool) : Type 0 where
   -- a link that ended shows its cause
   pub cause : (at : ℕ) (l : LinkRecord) (e : Ended) → slice_get r.links at ≡ Some l → l.state ≡ Over e → ShowsCause t.framing l.pieces (slice_get at_end at) e.cause
+  -- no act binds a session, so no link has a uid
+  pub uid : (at : ℕ) (l : LinkRecord) (e : Ended) → slice_get r.links at ≡ Some l → accepted_in l.state ≡ Some e → e.uid ≡ 0
   -- what was sent was sent to the session of a link
   pub sent : (k : ℕ) (log : List (Given × Act)) → slice_get r.workers k ≡ Some log → (s : ℕ) (b : List ℕ) → HasAnswer log (Send s b) Sent → (l : LinkRecord) × HasLink r.links s l
   pub refused : (k : ℕ) (log : List (Given × Act)) → slice_get r.workers k ≡ Some log → (s seen : ℕ) (b : List ℕ) → HasAnswer log (Send s b) (NoSession seen) → IsOther t r s seen

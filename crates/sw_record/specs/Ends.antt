@@ -9,18 +9,11 @@ use Rattle.sw_data.specs.declared.events.Event.TheVariants.{Connect, Closed}
 use Rattle.sw_data.specs.declared.events.Given.{Given}
 use Rattle.sw_data.specs.declared.events.Act.{Act}
 use Rattle.sw_record.specs.declared.record.LinkRecord.{LinkRecord}
-use Rattle.sw_record.specs.declared.record.LinkState.{LinkState}
-use Rattle.sw_record.specs.declared.record.LinkState.TheVariants.{Waiting, Live, Over}
+use Rattle.sw_record.specs.declared.record.LinkState.TheVariants.{Live, Over}
 use Rattle.sw_record.specs.declared.record.Record.{Record}
 use Rattle.sw_record.specs.Logs.{told_of, Handled}
 use Rattle.sw_record.specs.Bytes.{Own, Owned, StandsLate, EndsDone}
-use Rattle.sw_record.specs.Terms.{Terms, HasLink, packets_on, target, session_of}
-
--- what is said of a link that was accepted
-abbrev pub accepted_in : LinkState → Option Ended
-accepted_in Waiting = None
-accepted_in (Live e) = Some e
-accepted_in (Over e) = Some e
+use Rattle.sw_record.specs.Terms.{Terms, HasLink, packets_on, target, session_of, accepted_in}
 
 -- the accepted links, in order
 abbrev pub with_accepted : Option Ended → List Ended → List Ended
@@ -76,6 +69,8 @@ pub record Whole (t : Terms) (r : Record) (own : Own r) : Type 0 where
 
 -- nothing is on its way any more
 pub record Drained (t : Terms) (r : Record) : Type 0 where
+  -- there is a log for each worker
+  pub logs : length r.workers ≡ t.worker_num
   -- each packet that was pushed was handled by its worker
   pub handled : (s : ℕ) (l : LinkRecord) (e : Ended) → HasLink r.links s l → accepted_in l.state ≡ Some e → (log : List (Given × Act)) → slice_get r.workers (target t s) ≡ Some log → Handled log s ≡ take e.dispatched (packets_on t l)
   -- each session's Connect and Closed were handled

@@ -1,5 +1,5 @@
 -- What a user relies on, as one predicate on the record.
-use Rattle.std.specs.Prelude.{◌≡◌, ℕ, Bool, List, slice_get, Some}
+use Rattle.std.specs.Prelude.{◌≡◌, ℕ, Bool, List, length, slice_get, Some}
 use Rattle.sw_data.specs.declared.events.Given.{Given}
 use Rattle.sw_data.specs.declared.events.Act.{Act}
 use Rattle.sw_record.specs.declared.record.Record.{Record}
@@ -16,6 +16,8 @@ Dialogues r = (k : ℕ) (log : List (Given × Act)) → slice_get r.workers k �
 
 -- the part of it that speaks of order and sessions
 pub record IsOrderly (t : Terms) (r : Record) (at_end : List Bool) : Type 0 where
+  -- there is a log for each worker
+  pub logs : length r.workers ≡ t.worker_num
   pub dialogues : Dialogues r
   pub in_order : InOrder t r
   pub causes : CausesRight t r at_end

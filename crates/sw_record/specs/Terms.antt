@@ -1,5 +1,6 @@
 -- What a record is judged by, and what a link of it shows.
 use Rattle.std.specs.Prelude.{◌≡◌, ℕ, ◌+◌, ◌%◌, List, [], ◌∷◌, ◌++◌, slice_get, Option, Some, None}
+use Rattle.sw_data.specs.declared.ended.Ended.{Ended}
 use Rattle.sw_data.specs.Targets.{fixed_target}
 use Rattle.sw_frame.specs.declared.framing.Framing.{Framing}
 use Rattle.sw_frame.specs.Cut.{Cut, cut}
@@ -22,6 +23,12 @@ IsPrefix {A} xs ys = (rest : List A) × (xs ++ rest ≡ ys)
 -- the first list ends the second
 abbrev pub IsSuffix : {A : Type 0} → List A → List A → Type 0
 IsSuffix {A} xs ys = (front : List A) × (front ++ xs ≡ ys)
+
+-- what is said of a link that was accepted
+abbrev pub accepted_in : LinkState → Option Ended
+accepted_in Waiting = None
+accepted_in (Live e) = Some e
+accepted_in (Over e) = Some e
 
 -- the session of a link, once it has one
 abbrev pub session_of : LinkState → Option ℕ

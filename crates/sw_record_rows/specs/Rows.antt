@@ -1,77 +1,110 @@
--- Records that are wrong. Of most of them each piece is a packet, and the packets of each link are two, of the bytes
--- 97 and 98.
-use Rattle.std.specs.Prelude.{ℕ, List, [], ◌∷◌, Some}
+-- Records of two workers and two links or more. Each piece of a link is a packet, but where the framing says otherwise.
+use Rattle.std.specs.Prelude.{ℕ, List, [], ◌∷◌, Option, Some, None}
 use Rattle.sw_data.specs.declared.ended.Ended.{Ended}
 use Rattle.sw_data.specs.declared.ended.Cause.{Cause}
-use Rattle.sw_data.specs.declared.ended.Cause.TheVariants.{PeerEnd, TooLong, BadLength}
-use Rattle.sw_data.specs.declared.events.Event.TheVariants.{Packet}
+use Rattle.sw_data.specs.declared.ended.Cause.TheVariants.{PeerEnd}
+use Rattle.sw_data.specs.declared.events.Event.{Event}
+use Rattle.sw_data.specs.declared.events.Event.TheVariants.{Connect, Packet, Closed}
 use Rattle.sw_data.specs.declared.events.Act.{Act}
 use Rattle.sw_data.specs.declared.events.Act.TheVariants.{Send, Done}
-use Rattle.sw_data.specs.declared.events.Answer.TheVariants.{Sent}
+use Rattle.sw_data.specs.declared.events.Answer.TheVariants.{Sent, NoSession}
 use Rattle.sw_data.specs.declared.events.Given.{Given}
 use Rattle.sw_data.specs.declared.events.Given.TheVariants.{Event as EventGiven, Answer as AnswerGiven}
 use Rattle.sw_frame.specs.declared.framing.Framing.TheVariants.{Raw, Eof}
 use Rattle.sw_record.specs.declared.record.LinkRecord.{LinkRecord}
-use Rattle.sw_record.specs.declared.record.LinkState.TheVariants.{Live, Over}
+use Rattle.sw_record.specs.declared.record.LinkState.{LinkState}
+use Rattle.sw_record.specs.declared.record.LinkState.TheVariants.{Waiting, Live, Over}
 use Rattle.sw_record.specs.declared.record.Record.{Record}
 use Rattle.sw_record.specs.Terms.{Terms}
 
-abbrev pub two_packets : Terms
-two_packets = record { framing = Raw; worker_num = 1; max_conn = 1024; session_last = 0 }
+abbrev pub Log : Type 0
+Log = List (Given × Act)
 
--- what is said of the first session's link
-abbrev pub said : ℕ → Ended
-said n = record { session = Some 1; fd = 1; ip = 0; uid = 0; dispatched = n; split = n; cause = PeerEnd }
-
-abbrev pub live : List ℕ → LinkRecord
-live written = record { ip = 0; state = Live (said 2); pieces = (97 ∷ []) ∷ (98 ∷ []) ∷ []; written = written }
-
-abbrev pub over : ℕ → LinkRecord
-over n = record { ip = 0; state = Over (said n); pieces = (97 ∷ []) ∷ (98 ∷ []) ∷ []; written = [] }
-
-abbrev pub given_packet : ℕ → ℕ → ℕ → Given × Act
-given_packet s i b = (EventGiven (Packet s i (b ∷ [])), Done)
-
-abbrev pub swapped : Record
-swapped = record { links = live [] ∷ []; workers = (given_packet 1 1 98 ∷ given_packet 1 0 97 ∷ []) ∷ [] }
-
-abbrev pub given_twice : Record
-given_twice = record { links = live [] ∷ []; workers = (given_packet 1 0 97 ∷ given_packet 1 0 97 ∷ []) ∷ [] }
-
-abbrev pub stranger : Record
-stranger = record { links = live [] ∷ []; workers = (given_packet 2 0 97 ∷ []) ∷ [] }
-
-abbrev pub byte_too_many : Record
-byte_too_many = record { links = live (97 ∷ []) ∷ []; workers = [] ∷ [] }
-
-abbrev pub packet_missing : Record
-packet_missing = record { links = over 1 ∷ []; workers = [] ∷ [] }
-
-abbrev pub answered_twice : Record
-answered_twice = record { links = []; workers = ((EventGiven (Packet 1 0 (97 ∷ [])), Send 1 (97 ∷ [])) ∷ (AnswerGiven Sent, Done) ∷ (AnswerGiven Sent, Done) ∷ []) ∷ [] }
-
-abbrev pub number_given_twice : Record
-number_given_twice = record { links = live [] ∷ live [] ∷ []; workers = [] ∷ [] }
+-- two workers and four descriptors: session 1 has worker 1, session 2 worker 0
+abbrev pub terms : Terms
+terms = record { framing = Raw; worker_num = 2; max_conn = 4; session_last = 0 }
 
 -- the byte 10 ends a packet, which has at most 4 bytes
 abbrev pub marked : Terms
-marked = record { framing = Eof (10 ∷ []) 4; worker_num = 1; max_conn = 1024; session_last = 0 }
+marked = record terms { framing = Eof (10 ∷ []) 4 }
 
--- a link that ended so, behind which these bytes were read
-abbrev pub over_by : ℕ → Cause → List ℕ → LinkRecord
-over_by n cause bytes = record { ip = 0; state = Over (record (said n) { cause = cause }); pieces = bytes ∷ []; written = [] }
+-- one descriptor
+abbrev pub narrow : Terms
+narrow = record terms { max_conn = 1 }
 
-abbrev pub only_link : LinkRecord → Record
-only_link l = record { links = l ∷ []; workers = [] ∷ [] }
+-- one descriptor, and the first number is 6
+abbrev pub late_numbers : Terms
+late_numbers = record narrow { session_last = 5 }
 
--- three bytes without a mark may still become a packet
-abbrev pub no_fault : LinkRecord
-no_fault = over_by 0 (TooLong 4) (97 ∷ 97 ∷ 97 ∷ [])
+-- what is said of a link of this session and descriptor, of which so many packets were pushed
+abbrev pub said : ℕ → ℕ → ℕ → Ended
+said s fd n = record { session = Some s; fd = fd; ip = 0; uid = 0; dispatched = n; split = n; cause = PeerEnd }
 
--- four bytes without a mark are too long
-abbrev pub other_fault : LinkRecord
-other_fault = over_by 0 (BadLength 4) (97 ∷ 97 ∷ 97 ∷ 97 ∷ [])
+abbrev pub link : LinkState → List (List ℕ) → List ℕ → LinkRecord
+link state pieces written = record { ip = 0; state = state; pieces = pieces; written = written }
 
--- a packet stands before four bytes without a mark
-abbrev pub early_fault : LinkRecord
-early_fault = over_by 0 (TooLong 4) (98 ∷ 10 ∷ 97 ∷ 97 ∷ 97 ∷ 97 ∷ [])
+-- the bytes 97 and 98, each a piece
+abbrev pub two_pieces : List (List ℕ)
+two_pieces = (97 ∷ []) ∷ (98 ∷ []) ∷ []
+
+-- session 1, at its end, and nothing was written on it
+abbrev pub over : LinkRecord
+over = link (Over (said 1 1 2)) two_pieces []
+
+-- the same, of which so many packets were pushed
+abbrev pub over_at : ℕ → LinkRecord
+over_at n = link (Over (said 1 1 n)) two_pieces []
+
+-- session 1 without a packet, at its end
+abbrev pub over_silent : List ℕ → LinkRecord
+over_silent written = link (Over (said 1 1 0)) [] written
+
+-- session 1 while it lives, with these bytes written
+abbrev pub live : List ℕ → LinkRecord
+live written = link (Live (said 1 1 2)) two_pieces written
+
+-- session 2 while it lives, with these bytes written
+abbrev pub other : List ℕ → LinkRecord
+other written = link (Live (said 2 2 0)) [] written
+
+abbrev pub waiting : LinkRecord
+waiting = link Waiting [] []
+
+-- an event with the act that follows it
+abbrev pub on : Event → Act → Given × Act
+on e act = (EventGiven e, act)
+
+-- packet i of session s, of one byte
+abbrev pub packet : ℕ → ℕ → ℕ → Event
+packet s i b = Packet s i (b ∷ [])
+
+-- the act behind a send that was answered Sent, and behind one that was refused
+abbrev pub sent : Act → Given × Act
+sent act = (AnswerGiven Sent, act)
+
+abbrev pub refused : ℕ → Act → Given × Act
+refused seen act = (AnswerGiven (NoSession seen), act)
+
+-- what the worker of session 1 was given from its beginning to its end
+abbrev pub whole_log : Log
+whole_log = on (Connect 1) Done ∷ on (packet 1 0 97) Done ∷ on (packet 1 1 98) Done ∷ on (Closed 1) Done ∷ []
+
+-- what the worker of session 2 was given so far, and did
+abbrev pub other_log : Log
+other_log = on (Connect 2) (Send 2 (99 ∷ [])) ∷ sent Done ∷ []
+
+-- session 1 at its end, session 2 while it lives, and a link that waits
+abbrev pub right_record : Record
+right_record = record { links = over ∷ other (99 ∷ []) ∷ waiting ∷ []; workers = other_log ∷ whole_log ∷ [] }
+
+-- these two links with an idle worker, and worker 1 with this log
+abbrev pub recorded : LinkRecord → LinkRecord → Log → Record
+recorded a b log = record { links = a ∷ b ∷ []; workers = [] ∷ log ∷ [] }
+
+-- session 1, at its end by this cause, behind which these bytes were read
+abbrev pub over_by : Cause → List ℕ → LinkRecord
+over_by cause bytes = link (Over (record (said 1 1 0) { cause = cause })) (bytes ∷ []) []
+
+-- the same link at its end, with another thing said of it
+abbrev pub over_said : Ended → LinkRecord
+over_said e = link (Over e) two_pieces []

@@ -53,26 +53,26 @@ drained_played pairs free steps at l e there over =
     let s : State = run steps (start (framing_of pairs)) in
     subst (λ (x : Framing). Drained (core_terms x) (record_of s)) (framing_run steps (start (framing_of pairs))) (drained_reached s (framing_of pairs, (steps, (framing_fits pairs free, refl))) at l e there over)
 
-right_by : (text : List ℕ) (d : Drill) (o : Option SettingsFault) → fault_of d.pairs ≡ o → played_or d o ≡ Ok text → IsRightText text
-right_by text d (Some fault) e a = absurd cc
-right_by text d None e a =
+right_by : (input text : List ℕ) (d : Drill) (o : Option SettingsFault) → drill_of input ≡ Ok d → fault_of d.pairs ≡ o → played_or d o ≡ Ok text → IsRightText input text
+right_by input text d (Some fault) r e a = absurd cc
+right_by input text d None r e a =
     let t : drill_text d.pairs d.lines ≡ text = cc in
     record {
-      pairs = d.pairs;
+      drill = d;
+      read = r;
       settled = e;
-      steps = steps_of d.lines;
       printed = sym t ∙ drilled d.pairs d.lines;
       right = right_played d.pairs e (steps_of d.lines);
       drained = drained_played d.pairs e (steps_of d.lines);
     }
 
-right_answer : (text : List ℕ) (r : Result Drill ℕ) → answered r ≡ Ok text → IsRightText text
-right_answer text (Err n) a = absurd cc
-right_answer text (Ok d) a = right_by text d (fault_of d.pairs) refl a
+right_answer : (input text : List ℕ) (r : Result Drill ℕ) → drill_of input ≡ r → answered r ≡ Ok text → IsRightText input text
+right_answer input text (Err n) e a = absurd cc
+right_answer input text (Ok d) e a = right_by input text d (fault_of d.pairs) e refl a
 
-right_for : (o : Option Command) (s : FromSource) (text : List ℕ) → DueBy o s statuses.Ok text → IsRightFor o text
+right_for : (o : Option Command) (s : FromSource) (text : List ℕ) → DueBy o s statuses.Ok text → IsRightFor o s text
 right_for None s text m = tt
-right_for (Some DrillCommand) s text m = right_answer text (drill_of m.0) m.2
+right_for (Some DrillCommand) s text m = (m.0, m.1, right_answer m.0 text (drill_of m.0) refl m.2)
 right_for (Some Audit) s text m = tt
 
 -- what was written at Ok is such a text, if the words name a drill

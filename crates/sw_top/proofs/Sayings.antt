@@ -131,7 +131,7 @@ complete words s k (statuses.Settings fault) d c is no_read no_write input e fit
     inl (settings_expected c input fault (answered_all c s (Err (Settings fault)) input e (due words c s (statuses.Settings fault) d.0 is d.1).0))
 complete words s k statuses.InputLong d c is no_read no_write input e fits =
     let came = (due words c s statuses.InputLong d.0 is d.1).0 in
-    absurd (omega (arith, part_of s.left_new came.0 input (subst (λ l. Consumes l s.left_new came.0) e came.1), came.2, fits))
+    absurd (omega (arith, part_of s.left_new came.0 input (subst (λ l. Consumes l s.left_new came.0) e came.1), came.2.0, fits))
 complete words s k (statuses.No at) d c is no_read no_write input e fits =
     inl (place_expected c input at (answered_all c s (Err (Place at)) input e (due words c s (statuses.No at) d.0 is d.1).0))
 complete words s k statuses.Usage d c is no_read no_write input e fits = absurd (due words c s statuses.Usage d.0 is d.1)

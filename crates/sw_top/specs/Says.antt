@@ -2,7 +2,7 @@ use Rattle.std.specs.Prelude.{◌≡◌, ℕ, ◌≤◌, ◌<◌, List, codes, l
 use Rattle.std.specs.Prelude.{string_bytes}
 use Rattle.std.specs.Io.KnownBytes.{Consumes, Appends, IsAtEnd}
 use Rattle.sw_causes.specs.Causes.{Rises}
-use Rattle.sw_causes.specs.Whole.{Came, limit}
+use Rattle.sw_causes.specs.Whole.{Came, IsLong, limit}
 use Rattle.sw_audit.specs.declared.verdict.Verdict.TheVariants as verdicts
 use Rattle.sw_audit.specs.declared.verdict.AuditFault.TheVariants as faults
 use Rattle.sw_audit.specs.Verdicts.{IsAudit}
@@ -55,7 +55,7 @@ IsAnswered c s r = (input : List ℕ) × IsInput s input × Answers c input r
 abbrev pub Comes : Command → FromSource → Outcome → Type 0
 Comes c s (outcomes.Done text) = IsAnswered c s (Ok (string_bytes text))
 Comes c s (outcomes.Refused refusal) = IsAnswered c s (Err refusal)
-Comes c s outcomes.Long = Came s.left s.left_new (λ n. limit < n)
+Comes c s outcomes.Long = Came s.left s.left_new IsLong
 Comes c s outcomes.Fault = Came s.left s.left_new (λ n. n ≤ limit) × Rises s.faults s.faults_new
 Comes c s outcomes.Memory = Unit {0}
 
@@ -98,7 +98,7 @@ abbrev pub Due : Command → FromSource → Status → List ℕ → Type 0
 Due c s statuses.Ok text = IsAnswered c s (Ok text)
 Due c s (statuses.BadLine n) text = IsAnswered c s (Err (Line n)) × (text ≡ line_text n)
 Due c s (statuses.Settings fault) text = IsAnswered c s (Err (Settings fault)) × (text ≡ settings_text fault)
-Due c s statuses.InputLong text = Came s.left s.left_new (λ n. limit < n) × (text ≡ codes "fault long\n")
+Due c s statuses.InputLong text = Came s.left s.left_new IsLong × (text ≡ codes "fault long\n")
 Due c s (statuses.No at) text = IsAnswered c s (Err (Place at)) × (text ≡ verdict_text (verdicts.No at))
 Due c s statuses.Usage text = ⊥
 Due c s statuses.ReadFault text = Came s.left s.left_new (λ n. n ≤ limit) × Rises s.faults s.faults_new × (text ≡ codes "fault read\n")

@@ -4,6 +4,7 @@
 
 mod answering;
 mod command;
+mod line;
 mod playing;
 mod refusal;
 mod status;
@@ -11,5 +12,6 @@ mod word;
 mod words;
 
 pub use command::tool;
+pub use line::command_line;
 pub use status::Status;
 pub use word::Word;

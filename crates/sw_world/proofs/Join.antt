@@ -4,6 +4,7 @@ use Rattle.std.specs.List.{concat}
 use Rattle.sw_data.specs.declared.ended.Ended.{Ended}
 use Rattle.sw_data.specs.declared.events.Event.{Event}
 use Rattle.sw_data.specs.declared.events.Given.{Given}
+use Rattle.sw_data.specs.declared.events.Given.TheVariants.{Event as EventGiven, Answer as AnswerGiven}
 use Rattle.sw_data.specs.declared.events.Act.{Act}
 use Rattle.sw_data.specs.declared.messages.Msg.{Msg}
 use Rattle.sw_data.specs.declared.messages.Msg.TheVariants.{Fresh, Send, Bye, Event as EventMsg}
@@ -11,9 +12,9 @@ use Rattle.sw_frame.specs.declared.framing.Framing.{Framing}
 use Rattle.sw_link.specs.declared.link.Link.{Link}
 use Rattle.sw_record.specs.declared.record.LinkRecord.{LinkRecord}
 use Rattle.sw_record.specs.declared.record.LinkState.TheVariants.{Waiting, Over as AtEnd}
-use Rattle.sw_record.specs.Logs.{events_of}
+use Rattle.sw_record.specs.Logs.{events_of, Dialogue}
 use Rattle.sw_record.specs.Terms.{IsPrefix}
-use Rattle.sw_record.specs.Bytes.{StandsEarly}
+use Rattle.sw_record.specs.Bytes.{StandsEarly, NotRefusedBy}
 use Rattle.sw_record.specs.Ends.{Drained}
 use Rattle.sw_record.specs.Right.{Right}
 use Rattle.sw_conn.specs.declared.conn.Conn.{Conn}
@@ -66,8 +67,14 @@ led_before (m ∷ p) rest taken e led = led_first m p (subst IsLed (sym e) led)
     led_first (Bye s) p h = absurd h
     led_first (EventMsg e) p h = absurd h
 
-early_by : (log : List (Given × Act)) (s : ℕ) (ms : List (Msg Link ℕ)) → ms ≡ [] → StandsEarly log s (sends_in s ms)
-early_by log s ms none = record { early = []; late = log; split = refl; untold = refl; sends = ([], ap (λ xs. sends_in s xs ++ []) none) }
+-- a dialogue begins with an event
+begins_told : (log : List (Given × Act)) → Dialogue log → NotRefusedBy log
+begins_told [] d = tt
+begins_told ((EventGiven e, act) ∷ log) d = tt
+begins_told ((AnswerGiven a, act) ∷ log) d = absurd d.0
+
+early_by : (log : List (Given × Act)) (s : ℕ) (ms : List (Msg Link ℕ)) → Dialogue log → ms ≡ [] → StandsEarly log s (sends_in s ms)
+early_by log s ms d none = record { early = []; late = log; split = refl; untold = refl; kept = begins_told log d; sends = ([], ap (λ xs. sends_in s xs ++ []) none) }
 
 joined : (s : State) (h : History) → HasHistory s h → IsJoined s.worker.log h.reactor_took h.worker_took h.worker_pushed h.reactor_pushed
 joined s h l =
@@ -75,7 +82,7 @@ joined s h l =
       worker = worker_shows s.worker s.worker_next h.worker_took h.worker_pushed l.worker;
       to_worker = (events_in s.to_worker, l.to_worker);
       to_reactor = (from_worker s.to_reactor, l.to_reactor);
-      early = λ u p rest e. early_by s.worker.log u (before_fresh p) (led_before p rest h.reactor_took e l.led);
+      early = λ u p rest e. early_by s.worker.log u (before_fresh p) (worker_shows s.worker s.worker_next h.worker_took h.worker_pushed l.worker).dialogue (led_before p rest h.reactor_took e l.led);
     }
 
 -- a log of nothing
@@ -150,7 +157,7 @@ right_accepted s h ip here None (Some c) oi ci =
     let x : IsLive framing c h.reactor_took h.reactor_pushed = subst (λ (y : Option Conn). Shows framing y None h.reactor_took h.reactor_pushed) ci (subst (λ (y : Option Over). Shows framing s.reactor.conn y h.reactor_took h.reactor_pushed) oi here.shows) in
     let at = came_is s h ip c.ip c.session here x.came in
     right_live framing (accepted_link ip None (Some c)) s.worker.log h.reactor_took h.worker_took h.worker_pushed h.reactor_pushed (c.link.at_end ∷ [])
-    (rw (at.1, at.0) (refl, refl, refl))
+    (rw (at.1, at.0) (refl, refl, refl, refl))
     (ap Some at.1)
     (λ e f. cc)
     (x.told.0, x.told.1 ∙ ap (λ u. story u true (packets_of framing c.link.pieces) true) at.1)
@@ -160,7 +167,7 @@ right_accepted s h ip here None None oi ci =
     let framing : Framing = s.reactor.framing in
     let none : h.reactor_pushed ≡ [] = subst (λ (y : Option Conn). Shows framing y None h.reactor_took h.reactor_pushed) ci (subst (λ (y : Option Over). Shows framing s.reactor.conn y h.reactor_took h.reactor_pushed) oi here.shows) in
     right_live framing (accepted_link ip None None) s.worker.log h.reactor_took h.worker_took h.worker_pushed h.reactor_pushed (false ∷ [])
-    (refl, refl, refl)
+    (refl, refl, refl, refl)
     refl
     (λ e f. cc)
     (rw none (story 1 true (packets_of framing []) true, refl))

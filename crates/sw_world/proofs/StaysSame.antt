@@ -7,7 +7,7 @@ use Rattle.sw_world.specs.declared.state.State.{State}
 
 same_conn : (o : Option Conn) → StaysConn o o
 same_conn None = tt
-same_conn (Some c) = inl (record { session = refl; ip = refl; pieces = refl; written = refl; at_end = refl; dispatched = refl; cause = refl })
+same_conn (Some c) = inl refl
 
 pub same_state : (s : State) → StaysState s s
 same_state s = record { log = refl; arrived = refl; net = refl; reactor = inl (record { over = refl; conn = same_conn s.reactor.conn }) }

@@ -5,3 +5,4 @@ pub mod Account
 pub mod Law
 pub mod Played
 pub mod Stays
+pub mod Core

@@ -1,4 +1,4 @@
-use Rattle.std.proofs.Common.{◌≡◌, ℕ, Some, slice_get, subst}
+use Rattle.std.proofs.Common.{◌≡◌, ℕ, Some, slice_get, subst, ap}
 use Rattle.sw_data.specs.declared.ended.Ended.{Ended}
 use Rattle.sw_record.specs.declared.record.LinkRecord.{LinkRecord}
 use Rattle.sw_record.specs.declared.record.LinkState.TheVariants.{Over}
@@ -8,6 +8,7 @@ use Rattle.sw_record.specs.Right.{Right}
 use Rattle.sw_laws.specs.Joint.{core_terms}
 use Rattle.sw_world.specs.Account.{record_of, at_end_of}
 use Rattle.sw_world.specs.declared.state.State.{State}
+use Rattle.sw_world.specs.Core.{Core}
 use Rattle.sw_world.proofs.Reached.{right_reached, drained_reached}
 use Rattle.sw_world.proofs.world.World.account.Goals as goal
 
@@ -23,8 +24,8 @@ given_drained s t r e f h = subst (λ (x : State). IsDrained x r) e (rw f h)
 
 pub returns-clause-right : goal.returns-clause-right
 returns-clause-right c =
-    given_right c.self.inside.state c.args.self.now c.in_ok-record.record c.self.view_is c.in_ok-record.ensures (right_reached c.self.inside.state (c.self.invariant c.if-self.false))
+    given_right c.self.inside.state c.args.self.now.state c.in_ok-record.record (ap (λ (x : Core). x.state) c.self.view_is) c.in_ok-record.ensures (right_reached c.self.inside.state (c.self.invariant c.if-self.false))
 
 pub returns-clause-drained : goal.returns-clause-drained
 returns-clause-drained c =
-    given_drained c.self.inside.state c.args.self.now c.in_ok-record.record c.self.view_is c.in_ok-record.ensures (drained_reached c.self.inside.state (c.self.invariant c.if-self.false))
+    given_drained c.self.inside.state c.args.self.now.state c.in_ok-record.record (ap (λ (x : Core). x.state) c.self.view_is) c.in_ok-record.ensures (drained_reached c.self.inside.state (c.self.invariant c.if-self.false))
