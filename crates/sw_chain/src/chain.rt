@@ -1,19 +1,21 @@
 //! A bucket: the head in place, and boxed rows behind it.
-ghost use Rattle.std.specs.Prelude.{◌≡◌, ◌+◌, ◌-◌, ◌^◌, ◌<◌, ◌≤◌, ◌∷◌, [], length, slice_get, Some, None, IsSome, IsTrue, IfSome, IfNone};
+ghost use Rattle.std.specs.Prelude.{◌≡◌, ◌<◌, ◌≤◌, ◌∷◌, [], length, remove, slice_get, Some, None, IsSome, IsTrue, IfSome, IfNone};
 ghost use Rattle.sw_data.specs.declared.table.Value.TheVariants as values;
 ghost use Rattle.sw_column.specs.declared.column.Kind.TheVariants as kinds;
 ghost use Rattle.sw_column.specs.Values.{HasKinds, holds};
 ghost use Rattle.sw_row.specs.Layout.{kept, offset_of};
 ghost use Rattle.sw_chain.specs.Rows.{found, without, with_second, with_values, with_value};
 
+use crate::behind::{rewrite_behind, set_number_behind, take_behind, take_first};
+use crate::walk::{find_from, row_at};
 use std::marker::Model;
-use std::mem;
 use sw_column::{RowBuf, Schema};
 use sw_row::Row;
 
 /// The rows of a bucket, a list: the first stands in place, and each other one in a box behind the one before. No call
 /// takes memory or gives any back. Contracts see the list of the rows. A chain is as large as a row, more than 1,000
 /// bytes: where it is moved often, keep it in a box.
+#[derive(Drop)]
 pub struct Chain {
     len: u32,
     head: Row,
@@ -104,7 +106,25 @@ impl Chain {
         ensures last { IfSome result (λ spare. IfNone spare (length self.old ≡ 1)) }
         ensures spare { IfSome result (λ spare. IfSome spare (λ row. (2 ≤ length self.old) × (row.value.behind ≡ []))) }
     {
-        loop {}
+        match self.find(key) {
+            None => None,
+            Some(at) => Some(self.take_at(at)),
+        }
+    }
+
+    /// Takes the row at a place out, and gives its box, or that of the row that came into the head's place.
+    fn take_at(&mut self, at: u32) -> Option<Box<Row>>
+        requires { at < length self.old }
+        ensures rows { self.new ≡ remove self.old at }
+        ensures last { IfNone result (length self.old ≡ 1) }
+        ensures spare { IfSome result (λ row. (2 ≤ length self.old) × (row.value.behind ≡ [])) }
+    {
+        self.len -= 1;
+        if at == 0 {
+            take_first(&mut self.head)
+        } else {
+            Some(take_behind(&mut self.head, at - 1))
+        }
     }
 
     /// Writes new values into a row, under the same key.
@@ -113,7 +133,11 @@ impl Chain {
         requires kinds { HasKinds schema.now from.now }
         ensures { self.new ≡ with_values self.old at schema.now (kept schema.now from.now) }
     {
-        loop {}
+        if at == 0 {
+            self.head.rewrite(schema, from);
+        } else {
+            rewrite_behind(&mut self.head, at - 1, schema, from);
+        }
     }
 
     /// The number in a column of a row, read in place. `offset` is `sw_row::offset` of the column.
@@ -137,6 +161,10 @@ impl Chain {
         requires offset { offset ≡ offset_of schema.now column }
         ensures { self.new ≡ with_value self.old at column (values.Int n) }
     {
-        loop {}
+        if at == 0 {
+            self.head.set_number(schema, column, offset, n);
+        } else {
+            set_number_behind(&mut self.head, at - 1, schema, column, offset, n);
+        }
     }
 }

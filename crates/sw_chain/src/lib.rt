@@ -2,6 +2,9 @@
 //! Table.
 #![tactic(auto)]
 
+mod behind;
 mod chain;
+mod parted;
+mod walk;
 
 pub use chain::Chain;

@@ -14,7 +14,6 @@ use sw_column::{RowBuf, Schema};
 
 /// A row of fixed size: its key and its values stand in place, so that moving it takes no memory. Behind it is a place
 /// for one boxed row.
-#[derive(Drop)]
 pub struct Row {
     content: Content,
     next: Option<Box<Row>>,
@@ -34,6 +33,19 @@ impl Model for Row {
     ghost size = { λ r. length r.behind };
 
     ghost size_decreases = { λ a h. Prim.grind arith };
+}
+
+impl Drop for Row {
+    // A loop, so that a long chain of rows doesn't run out of stack.
+    fn drop(mut self) {
+        loop {
+            let Row { content: _, next } = self;
+            match next {
+                None => return,
+                Some(row) => self = Box::into_inner(row),
+            }
+        }
+    }
 }
 
 impl Row {
