@@ -1,6 +1,6 @@
 //! Changing the boxed rows behind the head of a bucket.
 ghost use Rattle.std.specs.Prelude.{◌≡◌, ◌<◌, ◌∷◌, [], length, remove, slice_get, IsTrue, IfSome, IfNone};
-ghost use Rattle.sw_data.specs.declared.table.Value.TheVariants as values;
+ghost use Rattle.sw_base.specs.declared.table.Value.TheVariants as values;
 ghost use Rattle.sw_column.specs.Values.{HasKinds, holds};
 ghost use Rattle.sw_row.specs.Layout.{kept, offset_of};
 ghost use Rattle.sw_chain.specs.Rows.{with_values, with_value};

@@ -1,6 +1,6 @@
 //! A bucket: the head in place, and boxed rows behind it.
 ghost use Rattle.std.specs.Prelude.{◌≡◌, ◌<◌, ◌≤◌, ◌∷◌, [], length, remove, slice_get, Some, None, IsSome, IsTrue, IfSome, IfNone};
-ghost use Rattle.sw_data.specs.declared.table.Value.TheVariants as values;
+ghost use Rattle.sw_base.specs.declared.table.Value.TheVariants as values;
 ghost use Rattle.sw_column.specs.declared.column.Kind.TheVariants as kinds;
 ghost use Rattle.sw_column.specs.Values.{HasKinds, holds};
 ghost use Rattle.sw_row.specs.Layout.{kept, offset_of};

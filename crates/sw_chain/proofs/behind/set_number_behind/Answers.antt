@@ -1,7 +1,7 @@
 use Rattle.std.proofs.Common.{◌≡◌, ◌∙◌, ◌∷◌, List, Option, ap, subst, arith, to_z, of_z, w64}
 use Rattle.std.specs.Prelude.{ℤ, IfSome, slice_set}
 use Rattle.std.proofs.lemmas.Int.{ints}
-use Rattle.sw_data.specs.declared.table.Value.TheVariants as values
+use Rattle.sw_base.specs.declared.table.Value.TheVariants as values
 use Rattle.sw_column.specs.declared.column.Column.{Column}
 use Rattle.sw_row.specs.Packed.{Packed, Linked, behind}
 use Rattle.sw_chain.specs.Rows.{with_value}

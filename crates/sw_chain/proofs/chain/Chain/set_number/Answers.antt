@@ -1,5 +1,5 @@
 use Rattle.std.proofs.Common.{◌≡◌, ◌-◌, ◌∙◌, ap, length, to_z, of_z, w64}
-use Rattle.sw_data.specs.declared.table.Value.TheVariants as values
+use Rattle.sw_base.specs.declared.table.Value.TheVariants as values
 use Rattle.sw_row.specs.Packed.{Linked}
 use Rattle.sw_chain.proofs.Gaps.{value_length}
 use Rattle.sw_chain.proofs.chain.Chain.set_number.Goals as goal
