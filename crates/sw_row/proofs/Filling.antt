@@ -1,14 +1,13 @@
 -- One value more: the steps of the loops over the columns.
-use Rattle.std.proofs.Common.{◌≡◌, ℕ, zero, suc, ◌+◌, ◌-◌, ◌<◌, ◌≤◌, Bool, true, false, List, [], ◌∷◌, length, take, drop, set, Option, Some, None, refl, ap, sym, ◌∙◌, subst, arith, add-one, true≢false}
+use Rattle.std.proofs.Common.{◌≡◌, ℕ, zero, suc, ◌+◌, ◌-◌, ◌<◌, ◌≤◌, false, List, [], ◌∷◌, length, take, drop, set, Option, Some, refl, ap, sym, ◌∙◌, subst, arith, add-one, true≢false}
 use Rattle.std.specs.Prelude.{slice_get, IsTrue, IfSome}
 use Rattle.std.proofs.lemmas.List.{take_all}
 use borrow.Rule.Slice.PartMut.{put_mid}
 use Rattle.sw_base.specs.declared.table.Value.{Value}
-use Rattle.sw_base.specs.declared.table.Value.TheVariants as values
 use Rattle.sw_column.specs.declared.column.Column.{Column}
 use Rattle.sw_column.specs.declared.column.Kind.{Kind}
 use Rattle.sw_column.specs.declared.column.Kind.TheVariants as kinds
-use Rattle.sw_column.specs.Columns.{is_size, width, row_width}
+use Rattle.sw_column.specs.Columns.{is_size, row_width}
 use Rattle.sw_column.specs.Values.{HasKinds, is_of_kind}
 use Rattle.sw_row.specs.Layout.{offset_of, value_in, values_in, kept_value, kept}
 use Rattle.sw_row.proofs.Places.{wide, values_at, values_put}
@@ -101,7 +100,7 @@ read_more cs row bytes o w at c k is lt begins wider so_far =
     let l : length row ≡ length cs = kinds_length cs row k in
     let less : o + w - o ≡ wide c = omega arith in
     let value : slice_get (values_in cs bytes) at ≡ Some (value_in c.kind c.size (take (o + w - o) (drop o bytes))) =
-        values_at cs bytes at c is ∙ (λ i. Some (value_in c.kind c.size (take (sym less i) (drop (sym begins i) bytes)))) in
+    values_at cs bytes at c is ∙ (λ i. Some (value_in c.kind c.size (take (sym less i) (drop (sym begins i) bytes)))) in
     filled_more row (values_in cs bytes) at (value_in c.kind c.size (take (o + w - o) (drop o bytes))) (omega arith) (omega arith) so_far value
 
 pub read_kinds : (cs : List Column) (row : List Value) (bytes : List ℕ) (at : ℕ) (c : Column) → HasKinds cs row → slice_get cs at ≡ Some c → IsTrue (is_size c.kind c.size) → HasKinds cs (set row at (value_in c.kind c.size bytes))

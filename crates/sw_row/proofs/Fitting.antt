@@ -1,5 +1,5 @@
 -- Values that fit their columns are kept as they are, and values that are read fit.
-use Rattle.std.proofs.Common.{◌≡◌, ℕ, suc, ◌+◌, ◌-◌, ◌<◌, ◌≤◌, min, Bool, true, false, ◌&&◌, List, [], ◌∷◌, length, take, drop, set, Option, Some, refl, ap, sym, ◌∙◌, subst, arith, true≢false}
+use Rattle.std.proofs.Common.{◌≡◌, ℕ, ◌+◌, ◌-◌, ◌≤◌, Bool, true, false, ◌&&◌, List, [], ◌∷◌, length, take, drop, set, Some, refl, ap, sym, ◌∙◌, subst, arith, true≢false}
 use Rattle.std.specs.Prelude.{ℤ, IsTrue, slice_get}
 use Rattle.std.specs.List.{list_all}
 use Rattle.std.specs.Int.{w16, from_le_bytes}

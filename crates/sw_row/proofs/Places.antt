@@ -1,11 +1,10 @@
 -- Where the bytes of a column stand, and what a write to them leaves of the other columns.
-use Rattle.std.proofs.Common.{◌≡◌, ℕ, zero, suc, ◌+◌, ◌-◌, ◌<◌, ◌≤◌, min, List, [], ◌∷◌, ◌++◌, length, take, drop, set, get_or, Option, Some, None, refl, ap, sym, ◌∙◌, subst, arith, add-one}
-use Rattle.std.specs.Prelude.{sum_by, slice_get}
+use Rattle.std.proofs.Common.{◌≡◌, ℕ, zero, suc, ◌+◌, ◌-◌, ◌<◌, ◌≤◌, min, List, [], ◌∷◌, length, take, drop, set, get_or, Some, ap, sym, ◌∙◌, subst, arith}
+use Rattle.std.specs.Prelude.{slice_get}
 use Rattle.std.proofs.lemmas.List.{take-take, drop-drop, drop-take, length-take, length-drop}
 use Rattle.std.proofs.lemmas.List.Sums.{sum_by-cons, sum_by_more, sum_by_more_le}
 use Rattle.std.proofs.lemmas.Slice.{take-put_mid_below, drop-put_mid, between-put_mid}
 use borrow.Rule.Slice.PartMut.{put_mid}
-use Rattle.sw_base.specs.declared.table.Value.{Value}
 use Rattle.sw_column.specs.declared.column.Column.{Column}
 use Rattle.sw_column.specs.Columns.{width, row_width}
 use Rattle.sw_row.specs.Layout.{offset_of, value_in, values_in}
@@ -63,10 +62,10 @@ values_changed (d ∷ cs) old new (suc at) c is before after =
     let below : take (wide d + offset_of cs at) new ≡ take (wide d + offset_of cs at) old = subst (λ n. take n new ≡ take n old) o before in
     let head : take (wide d) new ≡ take (wide d) old = take_less (wide d) (offset_of cs at) new old below in
     let inner : take (offset_of cs at) (drop (wide d) new) ≡ take (offset_of cs at) (drop (wide d) old) =
-        sym (drop-take (wide d) (offset_of cs at) new) ∙ ap (drop (wide d)) below ∙ drop-take (wide d) (offset_of cs at) old in
+    sym (drop-take (wide d) (offset_of cs at) new) ∙ ap (drop (wide d)) below ∙ drop-take (wide d) (offset_of cs at) old in
     let ends : offset_of (d ∷ cs) (suc at) + wide c ≡ wide d + (offset_of cs at + wide c) = omega arith in
     let outer : drop (offset_of cs at + wide c) (drop (wide d) new) ≡ drop (offset_of cs at + wide c) (drop (wide d) old) =
-        drop-drop (offset_of cs at + wide c) (wide d) new ∙ ap (λ n. drop n new) (sym ends) ∙ after ∙ ap (λ n. drop n old) ends ∙ sym (drop-drop (offset_of cs at + wide c) (wide d) old) in
+    drop-drop (offset_of cs at + wide c) (wide d) new ∙ ap (λ n. drop n new) (sym ends) ∙ after ∙ ap (λ n. drop n old) ends ∙ sym (drop-drop (offset_of cs at + wide c) (wide d) old) in
     let rest = values_changed cs (drop (wide d) old) (drop (wide d) new) at c is inner outer in
     let begins : drop (offset_of cs at) (drop (wide d) new) ≡ drop (offset_of (d ∷ cs) (suc at)) new = drop-drop (offset_of cs at) (wide d) new ∙ ap (λ n. drop n new) (sym o) in
     (λ i. value_in d.kind d.size (head i) ∷ rest i)

@@ -1,8 +1,7 @@
-use Rattle.std.proofs.Common.{◌≡◌, ◌+◌, ◌-◌, ◌<◌, ◌≤◌, min, length, take, drop, Some, sym, ◌∙◌, ap, arith, rules}
-use Rattle.std.specs.Prelude.{slice_get}
-use Rattle.std.proofs.lemmas.List.{length-take, length-drop}
+use Rattle.std.proofs.Common.{◌+◌, ◌-◌, ◌≤◌, length, drop, arith, rules}
+use Rattle.std.proofs.lemmas.List.{length-take}
 use Rattle.sw_column.specs.Columns.{row_width}
-use Rattle.sw_row.proofs.Places.{wide, offset_more, place_within}
+use Rattle.sw_row.proofs.Places.{offset_more, place_within}
 use Rattle.sw_row.proofs.Filling.{kinds_length, kind_of, packed_more, packed_all}
 use Rattle.sw_row.proofs.packing.pack.Goals as goal
 

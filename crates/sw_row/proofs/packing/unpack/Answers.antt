@@ -1,4 +1,4 @@
-use Rattle.std.proofs.Common.{◌≡◌, ◌+◌, ◌-◌, ◌<◌, ◌≤◌, length, take, drop, sym, ◌∙◌, ap, subst, arith, rules}
+use Rattle.std.proofs.Common.{◌+◌, ◌-◌, ◌≤◌, length, take, drop, sym, ◌∙◌, ap, subst, arith, rules}
 use Rattle.std.proofs.lemmas.List.{length-take}
 use Rattle.sw_column.specs.Columns.{row_width}
 use Rattle.sw_column.specs.Values.{HasKinds}
@@ -40,7 +40,7 @@ loop-at-preserved c =
       kinds = subst (HasKinds c.args.schema.now) (sym c.show_cell.ensures) (read_kinds c.args.schema.now c.loop-at.into _ c.loop-at.at c.at-column.result.now c.loop-at.invariant.kinds c.at-column.ensures.value c.at-column.ensures.sound);
       shown = ap (take (c.loop-at.at + 1)) c.show_cell.ensures
           ∙ read_more c.args.schema.now c.loop-at.into c.args.bytes.now c.loop-at.offset c.width.result c.loop-at.at c.at-column.result.now c.loop-at.invariant.kinds c.at-column.ensures.value (omega arith)
-              c.loop-at.invariant.offset c.width.ensures c.loop-at.invariant.shown;
+          c.loop-at.invariant.offset c.width.ensures c.loop-at.invariant.shown;
     }
 
 pub returns-clause-values : goal.returns-clause-values

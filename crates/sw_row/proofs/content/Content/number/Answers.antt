@@ -1,4 +1,4 @@
-use Rattle.std.proofs.Common.{◌≡◌, ◌+◌, ◌-◌, ◌≤◌, take, drop, List, sym, ◌∙◌, ap, subst, arith, rules, Some, Option, to_z, of_z, w64}
+use Rattle.std.proofs.Common.{◌≡◌, ◌+◌, ◌≤◌, List, sym, ◌∙◌, ap, subst, arith, rules, Some, Option, to_z, of_z, w64}
 use Rattle.std.specs.Prelude.{ℤ, IfSome, slice_get}
 use Rattle.std.proofs.lemmas.Int.{ints}
 use Rattle.sw_base.specs.declared.table.Value.TheVariants as values

@@ -1,5 +1,5 @@
-use Rattle.std.proofs.Common.{◌≡◌, ◌+◌, ◌-◌, ◌≤◌, length, take, set, List, sym, ◌∙◌, ap, subst, arith, rules, Some, Option, to_z, of_z, w64}
-use Rattle.std.specs.Prelude.{IfSome, IsTrue, slice_get}
+use Rattle.std.proofs.Common.{◌≡◌, ◌+◌, ◌-◌, ◌≤◌, take, set, List, sym, ◌∙◌, ap, subst, arith, rules, Option, to_z, of_z, w64}
+use Rattle.std.specs.Prelude.{IfSome, IsTrue}
 use Rattle.std.proofs.lemmas.Int.{ints}
 use borrow.Rule.Slice.PartMut.{put_mid}
 use Rattle.sw_base.specs.declared.table.Value.TheVariants as values
@@ -29,7 +29,7 @@ returns c =
     let narrow : row_width c.args.schema.now ≤ 1024 = c.is_sound.ensures.1 in
     let read : to_z w64 (of_z w64 c.args.n) ≡ c.args.n = omega (arith, ints) in
     let written = number_written c.args.schema.now c.self.inside.bytes c.put_number.new.bytes c.args.at c.at.result.now c.args.offset c.args.n c.at.ensures.value c.at.ensures.sound fit c.requires.offset
-            (omega arith) c.put_number.ensures.len (c.put_number.ensures.value ∙ ap (kept_number c.at.result.now.size) read) in
+    (omega arith) c.put_number.ensures.len (c.put_number.ensures.value ∙ ap (kept_number c.at.result.now.size) read) in
     let shown = subst (λ (cs : List Column). values_in cs (put_mid c.args.offset (c.args.offset + c.at.result.now.size - c.args.offset) c.self.inside.bytes c.put_number.new.bytes) ≡ set (values_in cs c.self.inside.bytes) c.args.at (values.Int c.args.n)) (sym columns) written in
     (λ i. record { key = take c.self.inside.key_len c.self.inside.key; columns = columns_of c.self.inside.columns; values = shown i })
     ∙ ap (λ (p : Packed). record p { values = set p.values c.args.at (values.Int c.args.n) }) c.self.view_is
