@@ -60,7 +60,14 @@ pub fn rewrite_behind(head: &mut Row, at: u32, schema: &Schema, from: &RowBuf)
 }
 
 /// Writes a number that fits into a column of a row behind the head.
-pub fn set_number_behind(head: &mut Row, at: u32, schema: &Schema, column: usize, offset: usize, n: i64)
+pub fn set_number_behind(
+    head: &mut Row,
+    at: u32,
+    schema: &Schema,
+    column: usize,
+    offset: usize,
+    n: i64,
+)
     requires place { at < length head.old.behind }
     requires packed { IfSome (slice_get head.old.behind at) (λ r. r.columns ≡ schema.now) }
     requires column { column < length schema.now }

@@ -1,8 +1,7 @@
-use Rattle.std.proofs.Common.{◌≡◌, ◌∙◌, ◌∷◌, List, Option, ap, subst, arith, to_z, of_z, w64}
+use Rattle.std.proofs.Common.{◌≡◌, ◌∙◌, ◌∷◌, Option, ap, subst, arith, to_z, of_z, w64}
 use Rattle.std.specs.Prelude.{ℤ, IfSome, slice_set}
 use Rattle.std.proofs.lemmas.Int.{ints}
 use Rattle.sw_base.specs.declared.table.Value.TheVariants as values
-use Rattle.sw_column.specs.declared.column.Column.{Column}
 use Rattle.sw_row.specs.Packed.{Packed, Linked, behind}
 use Rattle.sw_chain.specs.Rows.{with_value}
 use Rattle.sw_chain.specs.Parted.{onto}
@@ -23,9 +22,9 @@ returns c =
     let gap : IsGap c.part-before.result.before c.part-before.result.rest c.args.head.now.behind c.args.at = record { rows = c.part-before.ensures.rows ∙ c.set_next.ensures.given; count = c.part-before.ensures.count } in
     let read : to_z w64 (of_z w64 c.args.n) ≡ c.args.n = omega (arith, ints) in
     let joined : behind c.join.result ≡ with_value c.args.head.now.behind c.args.at c.args.column (values.Int c.args.n) =
-        c.join.ensures
-        ∙ ap (λ (x : Linked). onto (behind c.part-before.result.before) (x.here ∷ x.behind)) c.set_number.ensures
-        ∙ ap (λ (x : Linked). onto (behind c.part-before.result.before) (record x.here { values = slice_set x.here.values c.args.column (values.Int (to_z w64 (of_z w64 c.args.n))) } ∷ x.behind)) c.deref_mut.ensures.value
-        ∙ gap_value c.part-before.result.before c.part-before.result.rest c.args.head.now.behind c.args.at c.in-Some.row gap c.in-Some.is c.args.column (values.Int (to_z w64 (of_z w64 c.args.n)))
-        ∙ ap (λ (z : ℤ). with_value c.args.head.now.behind c.args.at c.args.column (values.Int z)) read in
+    c.join.ensures
+    ∙ ap (λ (x : Linked). onto (behind c.part-before.result.before) (x.here ∷ x.behind)) c.set_number.ensures
+    ∙ ap (λ (x : Linked). onto (behind c.part-before.result.before) (record x.here { values = slice_set x.here.values c.args.column (values.Int (to_z w64 (of_z w64 c.args.n))) } ∷ x.behind)) c.deref_mut.ensures.value
+    ∙ gap_value c.part-before.result.before c.part-before.result.rest c.args.head.now.behind c.args.at c.in-Some.row gap c.in-Some.is c.args.column (values.Int (to_z w64 (of_z w64 c.args.n)))
+    ∙ ap (λ (z : ℤ). with_value c.args.head.now.behind c.args.at c.args.column (values.Int z)) read in
     c.set_next-in-Some.ensures.row ∙ (λ i. record { here = (c.set_next.ensures.row i).here; behind = joined i })

@@ -1,4 +1,4 @@
-use Rattle.std.proofs.Common.{refl, arith}
+use Rattle.std.proofs.Common.{arith}
 use Rattle.sw_row.specs.Packed.{behind}
 use Rattle.sw_chain.proofs.Gaps.{no_gap}
 use Rattle.sw_chain.proofs.parted.part.Goals as goal

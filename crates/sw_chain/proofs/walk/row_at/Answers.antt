@@ -1,4 +1,4 @@
-use Rattle.std.proofs.Common.{◌≡◌, ◌∷◌, ◌∙◌, suc, ◌<◌, ap, drop, length, subst, arith}
+use Rattle.std.proofs.Common.{◌≡◌, ◌∷◌, ◌∙◌, ap, arith}
 use Rattle.std.specs.Prelude.{slice_get}
 use Rattle.sw_chain.proofs.Seen.{not_last, drop_next, get_drop}
 use Rattle.sw_chain.proofs.walk.row_at.Goals as goal

@@ -1,7 +1,7 @@
-use Rattle.std.proofs.Common.{◌≡◌, ℕ, ◌<◌, sym, ◌∙◌, ap, subst, length, List, ◌∷◌, Option, arith}
+use Rattle.std.proofs.Common.{◌≡◌, ℕ, ◌<◌, sym, ◌∙◌, ap, subst, length, List, ◌∷◌, Option}
 use Rattle.std.specs.Prelude.{IfSome}
 use Rattle.sw_row.specs.Packed.{Packed}
-use Rattle.sw_chain.specs.Rows.{found, rows_of}
+use Rattle.sw_chain.specs.Rows.{found}
 use Rattle.sw_chain.proofs.Seen.{found_within, rows_some}
 use Rattle.sw_chain.proofs.chain.Chain.find.Goals as goal
 

@@ -1,4 +1,4 @@
-use Rattle.std.proofs.Common.{◌≡◌, ◌-◌, ◌∙◌, ap, length}
+use Rattle.std.proofs.Common.{◌∙◌, ap, length}
 use Rattle.sw_row.specs.Layout.{kept}
 use Rattle.sw_row.specs.Packed.{Linked}
 use Rattle.sw_chain.proofs.Gaps.{values_length}

@@ -1,4 +1,4 @@
-use Rattle.std.proofs.Common.{◌≡◌, ◌-◌, ◌∙◌, ap, length, to_z, of_z, w64}
+use Rattle.std.proofs.Common.{◌∙◌, ap, length, to_z, of_z, w64}
 use Rattle.sw_base.specs.declared.table.Value.TheVariants as values
 use Rattle.sw_row.specs.Packed.{Linked}
 use Rattle.sw_chain.proofs.Gaps.{value_length}
