@@ -2,8 +2,8 @@
 #![tactic(auto)]
 
 mod cutter;
-mod fed;
 mod framing;
+mod kept;
 mod laws;
 mod next;
 
