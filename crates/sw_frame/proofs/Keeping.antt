@@ -1,5 +1,5 @@
 -- What a cutter keeps, through a feed and an answer.
-use Rattle.std.proofs.Common.{◌≡◌, ◌≢◌, ℕ, zero, suc, ◌+◌, ◌-◌, ◌<◌, ◌≤◌, List, [], ◌∷◌, ◌++◌, length, take, drop, get_or, slice_get, Option, Some, None, refl, sym, ap, ◌∙◌, subst, arith, length-append, length-drop, take-append-drop, append-nil, is_some, if◌then◌else◌}
+use Rattle.std.proofs.Common.{◌≡◌, ◌≢◌, ℕ, zero, suc, ◌+◌, ◌-◌, ◌<◌, ◌≤◌, List, [], ◌∷◌, ◌++◌, length, take, drop, get_or, slice_get, Option, Some, None, refl, sym, ap, ◌∙◌, subst, arith, length-append, length-drop, take-append-drop, append-nil, is_some, if◌then◌else◌, Result, Ok, Err, OnOk, OnErr, ◌⊎◌, inl, inr}
 use Rattle.std.specs.List.{concat}
 use Rattle.std.proofs.lemmas.List.{length-take-le, drop-append-le, drop-drop}
 use Rattle.std.proofs.lemmas.List.Folds.{concat-append}
@@ -16,7 +16,7 @@ use Rattle.sw_frame.specs.declared.next.Next.{Next}
 use Rattle.sw_frame.specs.declared.next.Next.TheVariants.{Packet, More, TooLong, BadLength, OutOfMemory}
 use Rattle.sw_frame.specs.Cut.{filled, cut_by}
 use Rattle.sw_frame.specs.Cutting.{Cutting, next_rest, next_by, next_of, after, IsAnswer}
-use Rattle.sw_frame.specs.Kept.{seen, HasPieces, IsRest, HasRest, IsThere, next_first, cut_off, due_by, due_piece}
+use Rattle.sw_frame.specs.Kept.{seen, HasPieces, IsRest, HasRest, IsThere, Pushed, next_first, cut_off, due_by, due_piece}
 
 -- an element behind others, and the first of those that follow
 pub slice_get-append : {X : Type 0} (xs ys : List X) → slice_get (xs ++ ys) (length xs) ≡ slice_get ys 0
@@ -95,21 +95,22 @@ IsFresh searched = (kept : Kept) (rest : List ℕ) → kept.marks ≡ unscanned 
 abbrev pub IsLasting : (Kept → List ℕ → Type 0) → Type 0
 IsLasting searched = (old new : Kept) (rest later : List ℕ) → new.marks ≡ old.marks → new.field ≡ old.field → searched old rest → searched new (rest ++ later)
 
+-- what is known of the rest, by the fault that was answered
+open_rest : (first : List ℕ → First) (searched : Kept → List ℕ → Type 0) (kept : Kept) (rest : List ℕ) → kept.fault ≡ None → (kept.rest ≡ rest) × searched kept rest → IsRest first searched kept rest kept.fault
+open_rest first searched kept rest none is = subst (λ (fault : Option First). IsRest first searched kept rest fault) (sym none) is
+
+known_rest : (first : List ℕ → First) (searched : Kept → List ℕ → Type 0) (kept : Kept) (rest : List ℕ) (fault : Option First) → kept.fault ≡ fault → IsRest first searched kept rest kept.fault → IsRest first searched kept rest fault
+known_rest first searched kept rest fault is = subst (λ (fault : Option First). IsRest first searched kept rest fault) is
+
 -- through an answer what is kept stays right
 pub HasRest-cut_off : (first : List ℕ → First) → IsSteady first → (searched : Kept → List ℕ → Type 0) → IsFresh searched → (kept : Kept) (answer : Next) → kept.fault ≡ None → HasGiven first (concat kept.fed.pieces) kept.rest kept.given → searched kept kept.rest → IsAnswer (next_first kept.rest (first kept.rest)) answer → HasRest first searched (cut_off kept answer)
 HasRest-cut_off first ok searched fresh kept (Packet p) none given was is =
     let first_is : first kept.rest ≡ firsts.Packet (length p) = packet_is kept.rest p _ (IsThere-steady first ok kept.rest _ refl) is in
-    record { rest = drop (length p) kept.rest; given = HasGiven-more first ok _ kept.rest kept.given (length p) given first_is; is = rw none (refl, fresh _ _ refl refl) }
-HasRest-cut_off first ok searched fresh kept More none given was is = record { rest = kept.rest; given = given; is = rw none (refl, was) }
+    record { rest = drop (length p) kept.rest; given = HasGiven-more first ok _ kept.rest kept.given (length p) given first_is; is = open_rest first searched (cut_off kept (Packet p)) _ none (refl, fresh _ _ refl refl) }
+HasRest-cut_off first ok searched fresh kept More none given was is = record { rest = kept.rest; given = given; is = open_rest first searched kept kept.rest none (refl, was) }
 HasRest-cut_off first ok searched fresh kept (TooLong n) none given was is = record { rest = kept.rest; given = given; is = too_long_is kept.rest n _ is }
 HasRest-cut_off first ok searched fresh kept (BadLength n) none given was is = record { rest = kept.rest; given = given; is = bad_length_is kept.rest n _ is }
-HasRest-cut_off first ok searched fresh kept OutOfMemory none given was is = record { rest = kept.rest; given = given; is = rw none (refl, was) }
-
--- a piece goes on the rest
-pub record Pushed (old new : Kept) (piece : List ℕ) : Type 0 where
-  pub fed : new.fed.pieces ≡ old.fed.pieces ++ piece ∷ []
-  pub same : new ≡ record old { rest = new.rest; fed = new.fed }
-  pub rest : new.rest ≡ (if is_some old.fault then old.rest else old.rest ++ piece)
+HasRest-cut_off first ok searched fresh kept OutOfMemory none given was is = record { rest = kept.rest; given = given; is = open_rest first searched kept kept.rest none (refl, was) }
 
 concat-last : (ps : List (List ℕ)) (p : List ℕ) → concat (ps ++ p ∷ []) ≡ concat ps ++ p
 concat-last ps p = concat-append ps (p ∷ []) ∙ ap (λ xs. concat ps ++ xs) (append-nil p)
@@ -132,19 +133,19 @@ HasRest-pushed first ok searched lasting old new piece pushed has =
     record {
       rest = has.rest ++ piece;
       given = rw (pushed.fed, given, concat-last old.fed.pieces piece) (HasGiven-later first ok (concat old.fed.pieces) has.rest piece old.given has.given);
-      is = rw fault (rest_pushed first ok searched lasting old new piece has.rest old.fault marks field pushed.rest has.is);
+      is = subst (λ (fault : Option First). IsRest first searched new (has.rest ++ piece) fault) (sym fault) (rest_pushed first ok searched lasting old new piece has.rest old.fault marks field pushed.rest has.is);
     }
 
 -- what is due, without a fault that was answered and with one
 pub due_open : (first : List ℕ → First) → IsSteady first → (searched : Kept → List ℕ → Type 0) (kept : Kept) → HasRest first searched kept → kept.fault ≡ None → HasGiven first (concat kept.fed.pieces) kept.rest kept.given × searched kept kept.rest × (due_by first kept ≡ next_first kept.rest (first kept.rest))
 due_open first ok searched kept has none =
-    let is : (kept.rest ≡ has.rest) × searched kept has.rest = rw none at has.is in
-    let given : HasGiven first (concat kept.fed.pieces) kept.rest kept.given = rw is.0 has.given in
-    (given, rw is.0 is.1, next_by-given first ok (concat kept.fed.pieces) kept.rest kept.given given)
+    let is : (kept.rest ≡ has.rest) × searched kept has.rest = known_rest first searched kept has.rest None none has.is in
+    let given : HasGiven first (concat kept.fed.pieces) kept.rest kept.given = subst (λ (xs : List ℕ). HasGiven first (concat kept.fed.pieces) xs kept.given) (sym is.0) has.given in
+    (given, subst (λ (xs : List ℕ). searched kept xs) (sym is.0) is.1, next_by-given first ok (concat kept.fed.pieces) kept.rest kept.given given)
 
 pub due_closed : (first : List ℕ → First) → IsSteady first → (searched : Kept → List ℕ → Type 0) (kept : Kept) (fault : First) → HasRest first searched kept → kept.fault ≡ Some fault → due_by first kept ≡ next_rest (Some fault)
 due_closed first ok searched kept fault has some =
-    let is : fault_of (first has.rest) ≡ Some fault = rw some at has.is in
+    let is : fault_of (first has.rest) ≡ Some fault = known_rest first searched kept has.rest (Some fault) some has.is in
     next_by-given first ok (concat kept.fed.pieces) has.rest kept.given has.given ∙ fault_is has.rest (first has.rest) fault is
 
 -- the answer at a fault changes nothing
@@ -224,3 +225,16 @@ HasPieces-next old new p has items fed given =
       ahead = ap (drop 1) (sym ahead) ∙ drop-drop 1 old.given (filled old.fed.pieces) ∙ rw (pieces, given) refl;
       within = rw (pieces, given) (omega (arith, count));
     }
+
+pub due_piece-some : (kept : Kept) → HasPieces kept → (items : List (List ℕ)) → kept.pieces.items ≡ items → 0 < length items → (p : List ℕ) × (due_piece kept ≡ Packet p)
+due_piece-some kept has [] items some = absurd (omega arith)
+due_piece-some kept has (p ∷ later) items some = (p, due_piece-next kept p later has items)
+
+pub none_left : (items : List (List ℕ)) → length items ≡ 0 → items ≡ []
+none_left [] none = refl
+none_left (p ∷ ps) none = absurd (omega arith)
+
+-- one of two facts holds, by the result
+pub ok_or_err : {T E P Q : Type 0} (r : Result T E) → OnOk r P → OnErr r Q → P ⊎ Q
+ok_or_err (Ok x) ok err = inl ok
+ok_or_err (Err e) ok err = inr err

@@ -16,8 +16,8 @@ use Rattle.sw_frame.specs.declared.framing.Framing.TheVariants.{Raw, Eof, Length
 use Rattle.sw_frame.specs.declared.kept.Kept.{Kept}
 use Rattle.sw_frame.specs.Cut.{IsFit, cut}
 use Rattle.sw_frame.specs.Cutting.{Cutting, next_of}
-use Rattle.sw_frame.specs.Kept.{seen, HasRest, IsKept, by_mark, by_field, due_by, due_piece}
-use Rattle.sw_frame.proofs.Keeping.{IsFresh, IsLasting, Pushed, HasRest-pushed}
+use Rattle.sw_frame.specs.Kept.{seen, HasRest, IsKept, Pushed, by_mark, by_field, due_by, due_piece}
+use Rattle.sw_frame.proofs.Keeping.{IsFresh, IsLasting, HasRest-pushed}
 
 pub IsFresh-mark : (mark : List ℕ) (max : ℕ) → IsFresh (by_mark mark max)
 IsFresh-mark mark max kept rest marks field = subst (λ (scan : EofScan). HasScanned mark (take max rest) scan) (sym marks) (HasScanned-start mark (take max rest))

@@ -1,5 +1,5 @@
 -- What a cutter keeps: the bytes or the pieces that weren't given yet, and how far they were searched.
-use Rattle.std.specs.Prelude.{◌≡◌, ℕ, ◌+◌, ◌<◌, ◌≤◌, List, [], ◌∷◌, ◌++◌, length, take, drop, Option, Some, None, slice_get}
+use Rattle.std.specs.Prelude.{◌≡◌, ℕ, ◌+◌, ◌<◌, ◌≤◌, List, [], ◌∷◌, ◌++◌, length, take, drop, Option, Some, None, slice_get, is_some, if◌then◌else◌}
 use Rattle.std.specs.List.{concat}
 use Rattle.sw_cut.specs.declared.First.{First}
 use Rattle.sw_cut.specs.declared.First.TheVariants as first
@@ -54,6 +54,12 @@ IsAt (Length rule) kept = HasRest (lengths.first_in rule) (by_field rule) kept
 pub record IsKept (framing : Framing) (kept : Kept) : Type 0 where
   pub fit : IsFit framing
   pub at : IsAt framing kept
+
+-- a piece went on the rest, and behind a fault it isn't kept
+pub record Pushed (old new : Kept) (piece : List ℕ) : Type 0 where
+  pub fed : new.fed.pieces ≡ old.fed.pieces ++ piece ∷ []
+  pub same : new ≡ record old { rest = new.rest; fed = new.fed }
+  pub rest : new.rest ≡ (if is_some old.fault then old.rest else old.rest ++ piece)
 
 -- a packet that comes first in the rest is there
 abbrev pub IsThere : List ℕ → First → Type 0

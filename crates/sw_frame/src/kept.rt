@@ -1,5 +1,5 @@
 //! What a cutter keeps. The bytes of a packet leave it when the packet is given, and behind a fault no byte is kept.
-ghost use Rattle.std.specs.Prelude.{◌≡◌, ℕ, ◌+◌, ◌<◌, ◌≤◌, List, [], ◌∷◌, ◌++◌, length, take, drop, OnOk, OnErr, Some, None, is_some, if◌then◌else◌, ◌↔◌, IsTrue};
+ghost use Rattle.std.specs.Prelude.{◌≡◌, ◌<◌, ◌≤◌, [], ◌∷◌, ◌++◌, length, OnOk, OnErr, Some, None, ◌↔◌, IsTrue};
 ghost use Rattle.sw_frame_eof.specs.Scan.{unscanned};
 ghost use Rattle.sw_frame_len.specs.Read.{unread};
 ghost use Rattle.sw_frame.specs.Cutting.{next_rest};
@@ -37,7 +37,7 @@ impl Kept {
     ghost use Rattle.sw_frame_eof.specs.Mark as marks;
     ghost use Rattle.sw_frame_len.specs.Length as lengths;
     ghost use Rattle.sw_frame.specs.Cutting.{IsAnswer};
-    ghost use Rattle.sw_frame.specs.Kept.{HasPieces, HasRest, IsThere, by_mark, by_field, due_piece, due_by, next_first, cut_off};
+    ghost use Rattle.sw_frame.specs.Kept.{HasPieces, HasRest, IsThere, Pushed, by_mark, by_field, due_piece, due_by, next_first, cut_off};
 
     /// Nothing yet. It takes no memory.
     pub fn new(alloc: Global) -> Kept
@@ -68,18 +68,19 @@ impl Kept {
         ensures err { OnErr result (self.new.fed.pieces ≡ self.old.fed.pieces) }
         ensures given { self.new.given ≡ self.old.given }
     {
-        if !piece.is_empty() {
-            let packet = Octets::of(Vec::from_slice(*self.pieces.allocator(), piece)?);
-            self.pieces.push_back(packet)?;
+        if piece.is_empty() {
+            self.fed = self.fed.with(piece);
+            return Ok(());
         }
+        let packet = Octets::of(Vec::from_slice(*self.pieces.allocator(), piece)?);
+        self.pieces.push_back(packet)?;
         self.fed = self.fed.with(piece);
         Ok(())
     }
 
     /// One piece more, whose bytes go on the rest. Behind a fault they aren't kept. At `OutOfMemory` nothing is changed.
     pub fn push_bytes(&mut self, piece: &[u8]) -> Result<(), OutOfMemory>
-        ensures ok { OnOk result ((self.new.fed.pieces ≡ self.old.fed.pieces ++ piece.now ∷ []) × (self.new ≡ record self.old { rest = self.new.rest; fed = self.new.fed })) }
-        ensures rest { OnOk result (self.new.rest ≡ (if is_some self.old.fault then self.old.rest else self.old.rest ++ piece.now)) }
+        ensures ok { OnOk result (Pushed self.old self.new piece.now) }
         ensures err { OnErr result (self.new ≡ self.old) }
     {
         if self.fault.is_none() {
@@ -97,7 +98,10 @@ impl Kept {
         ensures fed { self.new.fed ≡ self.old.fed }
         ensures given { self.new.given ≡ (cut_off self.old result).given }
     {
-        if self.is_spent() && !self.pieces.is_empty() {
+        if self.pieces.is_empty() {
+            return Next::More;
+        }
+        if self.is_spent() {
             return Next::OutOfMemory;
         }
         match self.pieces.pop_front() {
@@ -118,11 +122,13 @@ impl Kept {
         ensures fed { self.new.fed ≡ self.old.fed }
         ensures given { self.new.given ≡ (cut_off self.old result).given }
     {
-        if let Some(fault) = self.fault {
-            return told(fault);
+        match self.fault {
+            Some(fault) => told(fault),
+            None => {
+                let first = self.marks.first(mark, max, self.rest.bytes());
+                self.next_by(first)
+            }
         }
-        let first = self.marks.first(mark, max, self.rest.bytes());
-        self.next_by(first)
     }
 
     /// The answer that is due where a field names each packet's length. At `OutOfMemory` no packet is lost.
@@ -133,11 +139,13 @@ impl Kept {
         ensures fed { self.new.fed ≡ self.old.fed }
         ensures given { self.new.given ≡ (cut_off self.old result).given }
     {
-        if let Some(fault) = self.fault {
-            return told(fault);
+        match self.fault {
+            Some(fault) => told(fault),
+            None => {
+                let first = self.field.first(rule, self.rest.bytes());
+                self.next_by(first)
+            }
         }
-        let first = self.field.first(rule, self.rest.bytes());
-        self.next_by(first)
     }
 
     /// The answer that is due where this comes first in the rest. At `OutOfMemory` nothing is changed.
