@@ -1,4 +1,6 @@
 //! Streams of packets of one size, cut from pieces of one size.
+ghost use Rattle.std.specs.Prelude.{◌<◌};
+
 use crate::one_by_one::search_one_by_one;
 use std::alloc::Global;
 use std::io;
@@ -107,12 +109,12 @@ fn cut(alloc: Global, how: How, bytes: &[u8], piece: usize) -> Result<(u64, u64)
 /// Counts the bytes `\n`, each found by a search of its own.
 fn marks(bytes: &[u8]) -> u64 {
     let mut count = 0u64;
-    let mut rest = bytes;
-    for _ in 0..bytes.len() {
-        match memchr::memchr(b'\n', rest) {
-            Some(at) => {
+    let mut at = 0;
+    while at < bytes.len() {
+        match memchr::memchr(b'\n', &bytes[at..]) {
+            Some(skipped) => {
                 count = count.saturating_add(1);
-                rest = &rest[at + 1..];
+                at += skipped + 1;
             }
             None => break,
         }

@@ -18,9 +18,8 @@ fn search<L: Ledger>(
     let mut found = false;
     for _ in 0..count {
         bytes.push(b'a')?;
-        if scan.find(b"\r\n", &bytes, steps).is_some() {
-            found = true;
-        }
+        let here = scan.find(b"\r\n", &bytes, steps).is_some();
+        found = found | here;
     }
     Ok(found)
 }

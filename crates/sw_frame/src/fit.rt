@@ -1,8 +1,9 @@
+//! A framing that can cut, as a type.
 ghost use Rattle.std.specs.Prelude.{◌≡◌, IfOk};
 
 use std::marker::Model;
 use sw_base::OutOfMemory;
-use sw_frame::Framing;
+use crate::framing::Framing;
 
 /// A framing that can cut, which contracts see as that framing.
 #[derive(Drop, Debug)]
