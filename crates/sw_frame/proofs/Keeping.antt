@@ -108,8 +108,8 @@ HasRest-cut_off first ok searched fresh kept (Packet p) none given was is =
     let first_is : first kept.rest ≡ firsts.Packet (length p) = packet_is kept.rest p _ (IsThere-steady first ok kept.rest _ refl) is in
     record { rest = drop (length p) kept.rest; given = HasGiven-more first ok _ kept.rest kept.given (length p) given first_is; is = open_rest first searched (cut_off kept (Packet p)) _ none (refl, fresh _ _ refl refl) }
 HasRest-cut_off first ok searched fresh kept More none given was is = record { rest = kept.rest; given = given; is = open_rest first searched kept kept.rest none (refl, was) }
-HasRest-cut_off first ok searched fresh kept (TooLong n) none given was is = record { rest = kept.rest; given = given; is = too_long_is kept.rest n _ is }
-HasRest-cut_off first ok searched fresh kept (BadLength n) none given was is = record { rest = kept.rest; given = given; is = bad_length_is kept.rest n _ is }
+HasRest-cut_off first ok searched fresh kept (TooLong n) none given was is = record { rest = kept.rest; given = given; is = (refl, too_long_is kept.rest n _ is) }
+HasRest-cut_off first ok searched fresh kept (BadLength n) none given was is = record { rest = kept.rest; given = given; is = (refl, bad_length_is kept.rest n _ is) }
 HasRest-cut_off first ok searched fresh kept OutOfMemory none given was is = record { rest = kept.rest; given = given; is = open_rest first searched kept kept.rest none (refl, was) }
 
 concat-last : (ps : List (List ℕ)) (p : List ℕ) → concat (ps ++ p ∷ []) ≡ concat ps ++ p
@@ -122,7 +122,7 @@ rest_pushed : (first : List ℕ → First) → IsSteady first → (searched : Ke
 rest_pushed first ok searched lasting old new piece rest None marks field is was =
     (is ∙ ap (λ xs. xs ++ piece) was.0, lasting old new rest piece marks field was.1)
 rest_pushed first ok searched lasting old new piece rest (Some fault) marks field is was =
-    ap fault_of (ok.steady rest piece (fault_known (first rest) fault was)) ∙ was
+    (is ∙ was.0, ap fault_of (ok.steady rest piece (fault_known (first rest) fault was.1)) ∙ was.1)
 
 pub HasRest-pushed : (first : List ℕ → First) → IsSteady first → (searched : Kept → List ℕ → Type 0) → IsLasting searched → (old new : Kept) (piece : List ℕ) → Pushed old new piece → HasRest first searched old → HasRest first searched new
 HasRest-pushed first ok searched lasting old new piece pushed has =
@@ -145,8 +145,8 @@ due_open first ok searched kept has none =
 
 pub due_closed : (first : List ℕ → First) → IsSteady first → (searched : Kept → List ℕ → Type 0) (kept : Kept) (fault : First) → HasRest first searched kept → kept.fault ≡ Some fault → due_by first kept ≡ next_rest (Some fault)
 due_closed first ok searched kept fault has some =
-    let is : fault_of (first has.rest) ≡ Some fault = known_rest first searched kept has.rest (Some fault) some has.is in
-    next_by-given first ok (concat kept.fed.pieces) has.rest kept.given has.given ∙ fault_is has.rest (first has.rest) fault is
+    let is = known_rest first searched kept has.rest (Some fault) some has.is in
+    next_by-given first ok (concat kept.fed.pieces) has.rest kept.given has.given ∙ fault_is has.rest (first has.rest) fault is.1
 
 -- the answer at a fault changes nothing
 pub told_is : (due : Next) (fault : First) → due ≡ next_rest (Some fault) → IsAnswer due (next_rest (Some fault))
@@ -190,18 +190,19 @@ after-given framing old new answer fed given =
     rw (pieces, given) (seen_after framing old answer)
 
 -- pieces that are packets: one more, and the next one
-pub HasPieces-pushed : (old new : Kept) (piece : List ℕ) → HasPieces old → 0 < length piece → new.fed.pieces ≡ old.fed.pieces ++ piece ∷ [] → new.given ≡ old.given → new.pieces.items ≡ old.pieces.items ++ piece ∷ [] → HasPieces new
-HasPieces-pushed old new piece has some fed given items =
+pub HasPieces-pushed : (old new : Kept) (piece : List ℕ) → HasPieces old → 0 < length piece → new.fed.pieces ≡ old.fed.pieces ++ piece ∷ [] → new.given ≡ old.given → new.pieces.items ≡ old.pieces.items ++ piece ∷ [] → new.rest ≡ old.rest → HasPieces new
+HasPieces-pushed old new piece has some fed given items rest =
     let all : filled new.fed.pieces ≡ filled old.fed.pieces ++ piece ∷ [] = ap filled fed ∙ filled-append old.fed.pieces (piece ∷ []) ∙ ap (λ (ps : List (List ℕ)). filled old.fed.pieces ++ ps) (filled-some piece [] some) in
     record {
       ahead = items ∙ ap (λ ps. ps ++ piece ∷ []) has.ahead ∙ sym (drop-append-le old.given (filled old.fed.pieces) (piece ∷ []) has.within) ∙ rw (all, given) refl;
       within = rw (all, given, length-append) (omega (arith, has.within));
+      bare = rest ∙ has.bare;
     }
 
-pub HasPieces-empty : (old new : Kept) (piece : List ℕ) → HasPieces old → length piece ≡ 0 → new.fed.pieces ≡ old.fed.pieces ++ piece ∷ [] → new.given ≡ old.given → new.pieces.items ≡ old.pieces.items → HasPieces new
-HasPieces-empty old new piece has none fed given items =
+pub HasPieces-empty : (old new : Kept) (piece : List ℕ) → HasPieces old → length piece ≡ 0 → new.fed.pieces ≡ old.fed.pieces ++ piece ∷ [] → new.given ≡ old.given → new.pieces.items ≡ old.pieces.items → new.rest ≡ old.rest → HasPieces new
+HasPieces-empty old new piece has none fed given items rest =
     let all : filled new.fed.pieces ≡ filled old.fed.pieces = ap filled fed ∙ filled-append old.fed.pieces (piece ∷ []) ∙ ap (λ (ps : List (List ℕ)). filled old.fed.pieces ++ ps) (filled-empty piece [] none) ∙ append-nil (filled old.fed.pieces) in
-    record { ahead = items ∙ has.ahead ∙ rw (all, given) refl; within = rw (all, given) has.within }
+    record { ahead = items ∙ has.ahead ∙ rw (all, given) refl; within = rw (all, given) has.within; bare = rest ∙ has.bare }
 
 slice_get-drop : {X : Type 0} (xs : List X) (n : ℕ) → slice_get xs n ≡ slice_get (drop n xs) 0
 slice_get-drop xs zero = refl
@@ -215,16 +216,6 @@ due_piece-next kept p later has items =
 pub due_piece-end : (kept : Kept) → HasPieces kept → kept.pieces.items ≡ [] → due_piece kept ≡ More
 due_piece-end kept has items =
     ap (next_by None) (slice_get-drop (filled kept.fed.pieces) kept.given ∙ ap (λ (ps : List (List ℕ)). slice_get ps 0) (sym has.ahead ∙ items))
-
-pub HasPieces-next : (old new : Kept) (p : List ℕ) → HasPieces old → old.pieces.items ≡ p ∷ new.pieces.items → new.fed ≡ old.fed → new.given ≡ old.given + 1 → HasPieces new
-HasPieces-next old new p has items fed given =
-    let pieces : new.fed.pieces ≡ old.fed.pieces = ap (λ (k : Kept). k.fed.pieces) (ap (λ f. let k : Kept = record old { fed = f } in k) fed) in
-    let ahead : drop old.given (filled old.fed.pieces) ≡ p ∷ new.pieces.items = sym has.ahead ∙ items in
-    let count : length (filled old.fed.pieces) - old.given ≡ length new.pieces.items + 1 = sym (length-drop old.given (filled old.fed.pieces)) ∙ ap length ahead ∙ sym (omega arith) in
-    record {
-      ahead = ap (drop 1) (sym ahead) ∙ drop-drop 1 old.given (filled old.fed.pieces) ∙ rw (pieces, given) refl;
-      within = rw (pieces, given) (omega (arith, count));
-    }
 
 pub due_piece-some : (kept : Kept) → HasPieces kept → (items : List (List ℕ)) → kept.pieces.items ≡ items → 0 < length items → (p : List ℕ) × (due_piece kept ≡ Packet p)
 due_piece-some kept has [] items some = absurd (omega arith)

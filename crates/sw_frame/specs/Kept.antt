@@ -25,6 +25,7 @@ seen framing kept = record { framing = framing; pieces = kept.fed.pieces; given 
 pub record HasPieces (kept : Kept) : Type 0 where
   pub ahead : kept.pieces.items ≡ drop kept.given (filled kept.fed.pieces)
   pub within : kept.given ≤ length (filled kept.fed.pieces)
+  pub bare : kept.rest ≡ []
 
 -- the rest was searched for a mark, and its length field was read
 abbrev pub by_mark : List ℕ → ℕ → Kept → List ℕ → Type 0
@@ -33,10 +34,10 @@ by_mark mark max kept rest = HasScanned mark (take max rest) kept.marks
 abbrev pub by_field : LengthRule → Kept → List ℕ → Type 0
 by_field rule kept rest = HasRead rule rest kept.field
 
--- without a fault the rest is kept and was searched so far; with one it isn't kept
+-- without a fault the rest is kept and was searched so far; with one nothing is kept
 abbrev pub IsRest : (List ℕ → First) → (Kept → List ℕ → Type 0) → Kept → List ℕ → Option First → Type 0
 IsRest first searched kept rest None = (kept.rest ≡ rest) × searched kept rest
-IsRest first searched kept rest (Some fault) = fault_of (first rest) ≡ Some fault
+IsRest first searched kept rest (Some fault) = (kept.rest ≡ []) × (fault_of (first rest) ≡ Some fault)
 
 -- the packets that were given were cut off the joined pieces, and the rest is known
 pub record HasRest (first : List ℕ → First) (searched : Kept → List ℕ → Type 0) (kept : Kept) : Type 0 where

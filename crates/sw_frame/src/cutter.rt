@@ -1,5 +1,5 @@
 //! A connection feeds the pieces that it reads to its cutter, and takes the packets from it.
-ghost use Rattle.std.specs.Prelude.{◌≡◌, ◌≤◌, ℕ, length, List, [], ◌∷◌, ◌++◌, OnOk, OnErr};
+ghost use Rattle.std.specs.Prelude.{◌≡◌, ◌≤◌, ℕ, ◌+◌, max, length, List, [], ◌∷◌, ◌++◌, OnOk, OnErr};
 ghost use Rattle.sw_frame.specs.Cut.{IsFit};
 
 use crate::framing::Framing;
@@ -8,10 +8,11 @@ use crate::next::Next;
 use std::alloc::Global;
 use std::marker::Model;
 use sw_base::OutOfMemory;
+use sw_ring::SLACK;
 
 /// Cuts the pieces of one byte stream into packets. Contracts see the framing, the pieces that were fed, and how
 /// many packets were given.
-#[derive(Drop)]
+#[derive(Drop, Debug)]
 pub struct Cutter {
     framing: Framing,
     kept: Kept,
@@ -29,7 +30,7 @@ impl Model for Cutter {
 }
 
 impl Cutter {
-    ghost use Rattle.sw_frame.specs.Cutting.{IsAnswer, next_of, after, cut_of};
+    ghost use Rattle.sw_frame.specs.Cutting.{IsAnswer, next_of, after, cut_of, ahead};
 
     /// A cutter that was fed nothing. It takes no memory. The framing is one that can cut, as `is_fit` tests.
     pub fn new(alloc: Global, framing: Framing) -> Cutter
@@ -74,6 +75,14 @@ impl Cutter {
         ensures cut { result ≤ length (cut_of self.now).packets }
     {
         self.kept.given
+    }
+
+    /// How many bytes of memory are in use for joined pieces: no more than the bytes that were fed and not given, twice,
+    /// or those and the slack.
+    pub fn room(&self) -> usize
+        ensures { result ≤ ahead self.now + max SLACK (ahead self.now) }
+    {
+        self.kept.rest.room()
     }
 
     /// How the pieces are cut.

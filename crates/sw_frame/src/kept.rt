@@ -15,7 +15,7 @@ use sw_history::History;
 use sw_ring::Ring;
 
 /// What was fed to a cutter and wasn't given yet, with how far it was searched.
-#[derive(Drop)]
+#[derive(Drop, Debug)]
 pub struct Kept {
     /// The pieces that aren't empty, where each piece is a packet.
     pub pieces: VecDeque<Octets>,

@@ -5,7 +5,7 @@ ghost use Rattle.std.specs.Borrow.{ftrue};
 use std::marker::Model;
 
 /// Pieces in the order in which they came. Contracts read them as `pieces`; the program keeps nothing.
-#[derive(Drop)]
+#[derive(Drop, Debug)]
 pub struct History {
     pub ghost pieces: { List (List ℕ) },
 }
