@@ -1,2 +1,0 @@
-use Rattle.std.proofs.Common.{◌<◌, length, drop, arith}
-use Rattle.bench_cut.proofs.cut.marks.Goals as goal
