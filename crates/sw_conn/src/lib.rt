@@ -2,7 +2,6 @@
 #![tactic(auto)]
 
 mod conn;
-mod framed;
 
 pub use conn::{Asked, Choice, Conn, READ_SIZE};
-pub use framed::FitFraming;
+pub use sw_frame::FitFraming;
