@@ -4,7 +4,9 @@
 mod audit;
 mod bare;
 mod board;
+mod cut;
 mod figures;
+mod one_by_one;
 mod pipe;
 mod rowlock;
 mod rowlock_loads;
@@ -14,13 +16,14 @@ mod table;
 
 use std::{env, io};
 
-/// What is printed where no part is named.
-const USAGE: &str = "usage: sw_bench pipe|rowlock|board|sessions|table|audit";
+/// What is printed where no part is named, behind a small load that is the same at each run.
+const USAGE: &str = "usage: sw_bench pipe|rowlock|board|sessions|table|audit|cut";
 
 fn main(rt: HostRuntime) -> io::Result<()> {
     let mut words = env::args(&rt)?;
     let _program = words.next();
     let Some(word) = words.next() else {
+        cut::fixed_load(&rt, rt.alloc())?;
         return println!(rt; "{USAGE}");
     };
     match word.as_str() {
@@ -30,6 +33,7 @@ fn main(rt: HostRuntime) -> io::Result<()> {
         "sessions" => sessions::figures(&rt, rt.alloc()),
         "table" => table::figures(&rt, rt.alloc()),
         "audit" => audit::figures(&rt, rt.alloc()),
+        "cut" => cut::figures(&rt, rt.alloc()),
         _ => println!(rt; "{USAGE}"),
     }
 }

@@ -19,6 +19,7 @@ const ROUNDS: u32 = 8;
 
 /// The sizes of packets and of pieces, in bytes.
 static PACKETS: [u32; 4] = [16, 64, 1024, 65_536];
+
 static PIECES: [usize; 3] = [1, 100, 8192];
 
 /// What ends a packet or begins it.
@@ -124,7 +125,10 @@ fn marks(bytes: &[u8]) -> u64 {
 
 /// MB a second.
 fn speed(bytes: u64, nanos: u128) -> u128 {
-    u128::from(bytes).saturating_mul(1000).checked_div(nanos).unwrap_or(0)
+    u128::from(bytes)
+        .saturating_mul(1000)
+        .checked_div(nanos)
+        .unwrap_or(0)
 }
 
 /// Small streams with a fixed answer, and a million bytes searched one by one.
@@ -140,7 +144,10 @@ pub fn fixed_load<R: Print>(rt: &R, alloc: Global) -> io::Result<()> {
             let Ok((packets, total)) = cut(alloc, how, &bytes, *piece) else {
                 return println!(rt; "no memory");
             };
-            println!(rt; "{} in pieces of {piece}: {packets} packets, {total} bytes", how.name())?;
+            println!(rt;
+                "{} in pieces of {piece}: {packets} packets, {total} bytes",
+                how.name()
+            )?;
         }
     }
     match search_one_by_one::<Brand>(alloc, 1_000_000, Blank::new(1)) {
@@ -173,7 +180,11 @@ fn bare<R: Print + Clock>(rt: &R, how: How, size: u32, bytes: &[u8]) -> io::Resu
     }
     let nanos = start.elapsed(rt)?.as_nanos();
     let total = (bytes.len() as u64).saturating_mul(u64::from(ROUNDS));
-    println!(rt; "{} {size}: bare {} MB/s ({count})", how.name(), speed(total, nanos))
+    println!(rt;
+        "{} {size}: bare {} MB/s ({count})",
+        how.name(),
+        speed(total, nanos)
+    )
 }
 
 fn figure<R: Print + Clock>(
@@ -197,5 +208,9 @@ fn figure<R: Print + Clock>(
         all = all.saturating_add(total);
     }
     let nanos = start.elapsed(rt)?.as_nanos();
-    println!(rt; "{} {size}: pieces of {piece} {} MB/s", how.name(), speed(all, nanos))
+    println!(rt;
+        "{} {size}: pieces of {piece} {} MB/s",
+        how.name(),
+        speed(all, nanos)
+    )
 }

@@ -1,7 +1,7 @@
 use Rattle.std.proofs.Common.{ℕ, List, [], ◌∷◌, ◌≡◌, ◌<◌, length, sym, ◌∙◌, subst, arith}
 use Rattle.sw_frame_eof.specs.Scan.{HasScanned}
 use Rattle.sw_frame_eof.proofs.Scans.{HasScanned-later}
-use Rattle.bench_cut.proofs.one_by_one.search.Goals as goal
+use Rattle.sw_bench.proofs.one_by_one.search.Goals as goal
 
 pub find-requires-clause-scanned : goal.find-requires-clause-scanned
 find-requires-clause-scanned g c =

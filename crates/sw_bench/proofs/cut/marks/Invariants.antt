@@ -1,5 +1,5 @@
 use Rattle.std.proofs.Common.{◌-◌, ◌≤◌, length}
-use Rattle.bench_cut.proofs.cut.marks.Given as goal
+use Rattle.sw_bench.proofs.cut.marks.Given as goal
 
 abbrev pub invariant-loop-at : goal.invariant-loop-at
 invariant-loop-at l = l.at ≤ length l.bytes

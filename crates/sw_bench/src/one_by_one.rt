@@ -6,11 +6,7 @@ use std::sync::ledger::{Blank, Ledger};
 use sw_frame_eof::{EofScan, Steps};
 
 /// Searches for `\r\n` after each of so many bytes `a`, and says whether it was found: two steps a byte at most.
-fn search<L: Ledger>(
-    alloc: Global,
-    count: u32,
-    steps: &mut Steps<L>,
-) -> Result<bool, AllocError>
+fn search<L: Ledger>(alloc: Global, count: u32, steps: &mut Steps<L>) -> Result<bool, AllocError>
     ensures { steps.new ≤ steps.old + 2 * count }
 {
     let mut scan = EofScan::new();
@@ -25,7 +21,11 @@ fn search<L: Ledger>(
 }
 
 /// The same, where nobody reads the steps.
-pub fn search_one_by_one<L: Ledger>(alloc: Global, count: u32, blank: Blank) -> Result<bool, AllocError>
+pub fn search_one_by_one<L: Ledger>(
+    alloc: Global,
+    count: u32,
+    blank: Blank,
+) -> Result<bool, AllocError>
     requires name { blank.name ≡ L.name }
     requires parts { blank.parts ≡ L.parts }
     requires part { 0 < blank.parts }
