@@ -1,9 +1,8 @@
 -- What a cutter keeps, through a feed and an answer.
-use Rattle.std.proofs.Common.{◌≡◌, ◌≢◌, ℕ, zero, suc, ◌+◌, ◌-◌, ◌<◌, ◌≤◌, List, [], ◌∷◌, ◌++◌, length, take, drop, get_or, slice_get, Option, Some, None, refl, sym, ap, ◌∙◌, subst, arith, length-append, length-drop, take-append-drop, append-nil, is_some, if◌then◌else◌, Result, Ok, Err, OnOk, OnErr, ◌⊎◌, inl, inr}
+use Rattle.std.proofs.Common.{◌≡◌, ◌≢◌, ℕ, zero, suc, ◌+◌, ◌<◌, List, [], ◌∷◌, ◌++◌, length, take, drop, slice_get, Option, Some, None, refl, sym, ap, ◌∙◌, subst, arith, length-append, append-nil, is_some, if◌then◌else◌, Result, Ok, Err, OnOk, OnErr, ◌⊎◌, inl, inr}
 use Rattle.std.specs.List.{concat}
-use Rattle.std.proofs.lemmas.List.{length-take-le, drop-append-le, drop-drop}
+use Rattle.std.proofs.lemmas.List.{length-take-le, drop-append-le}
 use Rattle.std.proofs.lemmas.List.Folds.{concat-append}
-use Rattle.std.proofs.lemmas.Option.{slice_get_past}
 use Rattle.sw_cut.specs.declared.First.{First}
 use Rattle.sw_cut.specs.declared.First.TheVariants as firsts
 use Rattle.sw_cut.specs.Cut.{IsSteady, HasGiven, Parts, parts_of, fault_of}
@@ -15,7 +14,7 @@ use Rattle.sw_frame.specs.declared.kept.Kept.{Kept}
 use Rattle.sw_frame.specs.declared.next.Next.{Next}
 use Rattle.sw_frame.specs.declared.next.Next.TheVariants.{Packet, More, TooLong, BadLength, OutOfMemory}
 use Rattle.sw_frame.specs.Cut.{filled, cut_by}
-use Rattle.sw_frame.specs.Cutting.{Cutting, next_rest, next_by, next_of, after, IsAnswer}
+use Rattle.sw_frame.specs.Cutting.{Cutting, next_rest, next_by, after, IsAnswer}
 use Rattle.sw_frame.specs.Kept.{seen, HasPieces, IsRest, HasRest, IsThere, Pushed, next_first, cut_off, due_by, due_piece}
 
 -- an element behind others, and the first of those that follow

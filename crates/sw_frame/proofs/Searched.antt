@@ -1,22 +1,21 @@
 -- The searches of the two framings, and what a cutter of a framing keeps.
-use Rattle.std.proofs.Common.{◌≡◌, ℕ, ◌<◌, List, ◌++◌, length, take, refl, sym, ap, ◌∙◌, subst}
+use Rattle.std.proofs.Common.{◌≡◌, ℕ, ◌<◌, List, ◌++◌, length, take, refl, sym, subst}
 use Rattle.sw_frame_eof.specs.Mark as marks
-use Rattle.sw_frame_eof.specs.Scan.{HasScanned, unscanned}
+use Rattle.sw_frame_eof.specs.Scan.{HasScanned}
 use Rattle.sw_frame_eof.specs.declared.scan.EofScan.{EofScan}
 use Rattle.sw_frame_eof.proofs.Marks as mark_laws
 use Rattle.sw_frame_eof.proofs.Scans.{HasScanned-start, HasScanned-take}
 use Rattle.sw_frame_len.specs.Length as lengths
-use Rattle.sw_frame_len.specs.Read.{HasRead, unread}
+use Rattle.sw_frame_len.specs.Read.{HasRead}
 use Rattle.sw_frame_len.specs.declared.rule.LengthRule.{LengthRule}
 use Rattle.sw_frame_len.specs.declared.scan.LengthScan.{LengthScan}
 use Rattle.sw_frame_len.proofs.Lengths as length_laws
 use Rattle.sw_frame_len.proofs.ReadOnce.{HasRead-later}
-use Rattle.sw_frame.specs.declared.framing.Framing.{Framing}
 use Rattle.sw_frame.specs.declared.framing.Framing.TheVariants.{Raw, Eof, Length}
 use Rattle.sw_frame.specs.declared.kept.Kept.{Kept}
-use Rattle.sw_frame.specs.Cut.{IsFit, cut}
-use Rattle.sw_frame.specs.Cutting.{Cutting, next_of}
-use Rattle.sw_frame.specs.Kept.{seen, HasRest, IsKept, Pushed, by_mark, by_field, due_by, due_piece}
+use Rattle.sw_frame.specs.Cut.{cut}
+use Rattle.sw_frame.specs.Cutting.{next_of}
+use Rattle.sw_frame.specs.Kept.{seen, IsKept, Pushed, by_mark, by_field, due_by, due_piece}
 use Rattle.sw_frame.proofs.Keeping.{IsFresh, IsLasting, HasRest-pushed}
 
 pub IsFresh-mark : (mark : List ℕ) (max : ℕ) → IsFresh (by_mark mark max)

@@ -1,9 +1,9 @@
 //! A framing that can cut, as a type.
 ghost use Rattle.std.specs.Prelude.{◌≡◌, IfOk};
 
+use crate::framing::Framing;
 use std::marker::Model;
 use sw_base::OutOfMemory;
-use crate::framing::Framing;
 
 /// A framing that can cut, which contracts see as that framing.
 #[derive(Drop, Debug)]

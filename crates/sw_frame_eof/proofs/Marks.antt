@@ -8,7 +8,7 @@ use Rattle.std.proofs.lemmas.Bool.Decides.{not_from_Decides, leb_tells, nat_test
 use Rattle.memchr.specs.Find.{OccursAt}
 use Rattle.sw_cut.specs.declared.First.TheVariants.{Packet, More, TooLong}
 use Rattle.sw_cut.specs.Cut.{IsSteady}
-use Rattle.sw_frame_eof.specs.Mark.{EndsWith, IsLeastEnd, StandsAt, IsFirstEnd, NoEndWithin, IsFirst, mark_at, first_by, first_in}
+use Rattle.sw_frame_eof.specs.Mark.{EndsWith, StandsAt, IsFirstEnd, NoEndWithin, IsFirst, mark_at, first_by, first_in}
 
 -- the first place where the mark stands, or none
 abbrev pub IsMarkAt : List ℕ → List ℕ → Option ℕ → Type 0

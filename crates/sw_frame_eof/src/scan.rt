@@ -91,12 +91,7 @@ impl EofScan {
     }
 
     /// The first place of the mark, from the places on that were passed.
-    fn place<L: Ledger>(
-        &mut self,
-        mark: &[u8],
-        bytes: &[u8],
-        steps: &mut Steps<L>,
-    ) -> Option<usize>
+    fn place<L: Ledger>(&mut self, mark: &[u8], bytes: &[u8], steps: &mut Steps<L>) -> Option<usize>
         requires some { 0 < length mark.now }
         requires scanned { HasScanned mark.now bytes.now self.old }
         ensures place { result ≡ mark_at mark.now bytes.now }

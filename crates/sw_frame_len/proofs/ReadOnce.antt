@@ -1,5 +1,5 @@
 -- A field that was read, with more bytes.
-use Rattle.std.proofs.Common.{◌≡◌, ℕ, suc, ◌+◌, ◌≤◌, List, ◌++◌, length, Option, Some, None, refl, sym, ap, ◌∙◌, inl, inr, arith, length-append}
+use Rattle.std.proofs.Common.{◌≡◌, ℕ, suc, List, ◌++◌, length, Option, Some, None, sym, ap, ◌∙◌, inl, inr, arith, length-append}
 use Rattle.std.proofs.lemmas.Bool.Decides.{leb_tells}
 use Rattle.sw_frame_len.specs.declared.rule.LengthRule.{LengthRule}
 use Rattle.sw_frame_len.specs.declared.scan.LengthScan.{LengthScan}

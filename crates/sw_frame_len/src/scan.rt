@@ -44,7 +44,11 @@ impl LengthScan {
         let field_end = u64::from(rule.length_offset) + u64::from(rule.letter.width());
         let have = bytes.len() as u64;
         if rule.max < field_end {
-            return if rule.max <= have { First::TooLong(rule.max) } else { First::More };
+            return if rule.max <= have {
+                First::TooLong(rule.max)
+            } else {
+                First::More
+            };
         }
         if have < field_end {
             return First::More;

@@ -1,5 +1,5 @@
-use Rattle.std.proofs.Common.{◌≡◌, ◌<◌, length, arith, refl}
-use Rattle.sw_frame_eof.proofs.Marks.{OccursAt-StandsAt, StandsAt-OccursAt}
+use Rattle.std.proofs.Common.{arith, refl}
+use Rattle.sw_frame_eof.proofs.Marks.{OccursAt-StandsAt}
 use Rattle.sw_frame_eof.proofs.compare.stands_at.Goals as goal
 
 pub returns-clause-stands : goal.returns-clause-stands

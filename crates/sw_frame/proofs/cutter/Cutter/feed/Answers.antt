@@ -1,4 +1,4 @@
-use Rattle.std.proofs.Common.{inl, inr, sym}
+use Rattle.std.proofs.Common.{inl, inr}
 use Rattle.sw_frame.specs.declared.framing.Framing.TheVariants.{Eof, Length}
 use Rattle.sw_frame.specs.Kept.{IsKept}
 use Rattle.sw_frame.proofs.Keeping.{ok_or_err}

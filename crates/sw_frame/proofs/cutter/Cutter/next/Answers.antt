@@ -1,4 +1,4 @@
-use Rattle.std.proofs.Common.{◌≡◌, sym, ap, ◌∙◌}
+use Rattle.std.proofs.Common.{sym, ap, ◌∙◌}
 use Rattle.sw_frame.specs.declared.framing.Framing.{Framing}
 use Rattle.sw_frame.specs.Cutting.{next_of}
 use Rattle.sw_frame.specs.Kept.{seen}

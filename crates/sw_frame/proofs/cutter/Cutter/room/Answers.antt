@@ -1,6 +1,5 @@
 use Rattle.std.proofs.Common.{◌≤◌, length, arith}
 use Rattle.sw_frame.specs.Cutting.{ahead}
-use Rattle.sw_frame.specs.Kept.{seen}
 use Rattle.sw_frame.proofs.CutLaws.{rest-ahead}
 use Rattle.sw_frame.proofs.cutter.Cutter.room.Goals as goal
 

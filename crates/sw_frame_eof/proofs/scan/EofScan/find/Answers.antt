@@ -1,4 +1,4 @@
-use Rattle.std.proofs.Common.{◌≡◌, ◌+◌, ◌≤◌, length, Option, Some, None, sym, ◌∙◌, subst, ℕ, arith, rules}
+use Rattle.std.proofs.Common.{◌≡◌, ◌+◌, ◌≤◌, length, Option, Some, None, sym, ◌∙◌, subst, ℕ, rules}
 use Rattle.sw_frame_eof.proofs.Marks.{IsMarkAt, IsMarkAt-mark_at, IsFirstEnd-by, StandsAt-within}
 use Rattle.sw_frame_eof.proofs.scan.EofScan.find.Goals as goal
 

@@ -1,9 +1,8 @@
-use Rattle.std.proofs.Common.{◌≡◌, ◌+◌, ◌≤◌, length, take, List, Option, Some, None, sym, ap, ◌∙◌, subst, ℕ, arith, rules}
+use Rattle.std.proofs.Common.{◌≡◌, ◌+◌, ◌≤◌, length, take, Option, Some, None, sym, ap, ◌∙◌, subst, ℕ, arith, rules}
 use Rattle.std.proofs.lemmas.List.{take_min}
 use Rattle.std.proofs.lemmas.Bool.Decides.{nat_tests}
 use Rattle.sw_cut.specs.declared.First.TheVariants.{More, TooLong}
-use Rattle.sw_frame_eof.specs.Mark.{mark_at, first_by}
-use Rattle.sw_frame_eof.specs.Scan.{HasScanned}
+use Rattle.sw_frame_eof.specs.Mark.{first_by}
 use Rattle.sw_frame_eof.proofs.Marks.{IsMarkAt, IsMarkAt-mark_at, StandsAt-within, first_in-place}
 use Rattle.sw_frame_eof.proofs.scan.EofScan.first.Goals as goal
 

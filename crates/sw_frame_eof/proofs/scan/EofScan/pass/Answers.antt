@@ -1,7 +1,7 @@
-use Rattle.std.proofs.Common.{◌≡◌, ◌<◌, ◌≤◌, ◌+◌, ◌-◌, ℕ, suc, subst, length, arith, sym, ap, ◌∙◌, inl, inr}
+use Rattle.std.proofs.Common.{◌≡◌, ◌≤◌, ◌+◌, ◌-◌, ℕ, suc, subst, length, arith, ap, ◌∙◌, inl, inr}
 use Rattle.std.proofs.lemmas.Bool.Decides.{leb_tells}
 use Rattle.sw_frame_eof.specs.Mark.{StandsAt}
-use Rattle.sw_frame_eof.proofs.Scans.{FirstHere, none_at_all, first_here, length_window, passed_more, found_here, pays_none, pays_some, compared-none}
+use Rattle.sw_frame_eof.proofs.Scans.{none_at_all, first_here, length_window, passed_more, found_here, pays_none, pays_some, compared-none}
 use Rattle.sw_frame_eof.proofs.scan.EofScan.pass.Goals as goal
 
 pub returns-in-None-clause-scanned : goal.returns-in-None-clause-scanned
