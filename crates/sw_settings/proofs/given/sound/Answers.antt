@@ -1,8 +1,8 @@
 use Rattle.std.proofs.Common.{◌≡◌}
 use Rattle.std.specs.Option.{option_copied}
-use Rattle.sw_settings.specs.Values.{given}
+use Rattle.sw_settings.specs.Given.{given}
 use Rattle.sw_settings.proofs.Sound.{sound_seen}
-use Rattle.sw_settings.proofs.values.sound.Goals as goal
+use Rattle.sw_settings.proofs.given.sound.Goals as goal
 
 pub returns-clause-sound : goal.returns-clause-sound
 returns-clause-sound c =

@@ -1,8 +1,8 @@
 use Rattle.std.proofs.Common.{◌≡◌}
 use Rattle.std.specs.Str.{bytes_eq}
-use Rattle.sw_settings.specs.Values.{given}
+use Rattle.sw_settings.specs.Given.{given}
 use Rattle.sw_settings.proofs.Steps.{given_here, given_next, given_done}
-use Rattle.sw_settings.proofs.values.given.Goals as goal
+use Rattle.sw_settings.proofs.given.given.Goals as goal
 
 pub returns-then-eq : goal.returns-then-eq
 returns-then-eq c =

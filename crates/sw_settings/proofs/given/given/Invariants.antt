@@ -1,6 +1,6 @@
 use Rattle.std.proofs.Common.{◌≡◌, drop}
-use Rattle.sw_settings.specs.Values.{given}
-use Rattle.sw_settings.proofs.values.given.Given as goal
+use Rattle.sw_settings.specs.Given.{given}
+use Rattle.sw_settings.proofs.given.given.Given as goal
 
 -- the pairs that the loop has passed have another name
 abbrev pub invariant-loop-pair : goal.invariant-loop-pair
