@@ -1,4 +1,5 @@
 pub mod Steps
 pub mod Sound
+pub mod Fits
 pub mod FirstLaw
 pub mod Schemas

@@ -22,7 +22,7 @@ use Rattle.sw_settings.specs.Faults.{unknown_fault, type_fault, out_of_range, ra
 
 -- ---- pairs without a fault have none of any kind
 
-or_none : {A : Type 0} (a b : Option A) → option_or a b ≡ None → (a ≡ None) × (b ≡ None)
+pub or_none : {A : Type 0} (a b : Option A) → option_or a b ≡ None → (a ≡ None) × (b ≡ None)
 or_none None b e = (refl, e)
 or_none (Some x) b e = absurd cc
 
@@ -118,7 +118,7 @@ text_given (Some (values.Number n)) t e = absurd cc
 text_given (Some (values.Truth b)) t e = absurd cc
 text_given (Some (values.Text u)) t e = cc
 
-within : (least most n : ℕ) (a b : Bool) → nat_le least n ≡ a → nat_le n most ≡ b → (a && b) ≡ true → (least ≤ n) × (n ≤ most)
+pub within : (least most n : ℕ) (a b : Bool) → nat_le least n ≡ a → nat_le n most ≡ b → (a && b) ≡ true → (least ≤ n) × (n ≤ most)
 within least most n true true p q e = (leb-true least n p, leb-true n most q)
 within least most n true false p q e = absurd (true≢false (sym e))
 within least most n false b p q e = absurd (true≢false (sym e))

@@ -35,7 +35,7 @@ fn put_text(out: &mut String, text: &[u8]) -> Result<(), OutOfMemory>
 }
 
 fn put_shown(out: &mut String, shown: Shown<'_>) -> Result<(), OutOfMemory>
-    ensures { OnOk result (string_bytes out.new ≡ string_bytes out.old ++ shown_text shown) }
+    ensures { OnOk result (string_bytes out.new ≡ string_bytes out.old ++ shown_text shown.entry) }
 {
     match shown {
         Shown::Number(n) => Ok(put_number(out, n)?),
@@ -45,7 +45,7 @@ fn put_shown(out: &mut String, shown: Shown<'_>) -> Result<(), OutOfMemory>
 }
 
 fn put_line(out: &mut String, name: &str, shown: Shown<'_>) -> Result<(), OutOfMemory>
-    ensures { OnOk result (string_bytes out.new ≡ string_bytes out.old ++ line_text (name.now, shown_text shown)) }
+    ensures { OnOk result (string_bytes out.new ≡ string_bytes out.old ++ line_text (name.now, shown_text shown.entry)) }
 {
     out.push_str(name)?;
     out.push_str(" ")?;
