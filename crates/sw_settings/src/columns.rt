@@ -5,9 +5,9 @@ ghost use Rattle.sw_settings.specs.Columns.{columns_in, columns_named, are_colum
 ghost use Rattle.sw_call.specs.Columns.{schema_of};
 
 use std::alloc::Global;
+use sw_base::OutOfMemory;
 use sw_call::{Columns, Refused, columns};
 use sw_column::Schema;
-use sw_base::OutOfMemory;
 
 /// The columns that the text names; none where it is empty.
 fn columns_in(alloc: Global, text: &[u8]) -> Result<Option<Columns>, OutOfMemory>

@@ -6,9 +6,9 @@ ghost use Rattle.sw_settings.specs.Checks.{first_key};
 ghost use Rattle.sw_settings.specs.Faults.{unknown_fault, type_fault, range_fault, out_of_range, missing_fault, conflict_fault, pairs_fault, core_fault, from_type, from_range, from_missing};
 
 use crate::checks::{Check, first_key};
+use crate::given::{text, truth};
 use crate::keys::{Rule, rule_of};
 use crate::pair::Pair;
-use crate::given::{text, truth};
 use std::alloc::Global;
 use sw_base::{Key, Name, OutOfMemory};
 use sw_column::ColumnFault;

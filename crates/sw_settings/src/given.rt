@@ -94,11 +94,13 @@ pub fn number(pairs: &[Pair], name: &str) -> u64
     ensures bounds { InBounds (rule_of name.now) result }
 {
     match rule_of(name.as_bytes()) {
-        Some(Rule::Number {
-            least,
-            most,
-            default,
-        }) => number_or(pairs, name, least, most, default),
+        Some(
+            Rule::Number {
+                least,
+                most,
+                default,
+            },
+        ) => number_or(pairs, name, least, most, default),
         _ => 0,
     }
 }

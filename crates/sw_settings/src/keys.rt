@@ -21,30 +21,50 @@ pub enum Rule {
     Columns,
 }
 
+/// The rule of numbers, so that a key takes one line.
+macro_rules! number {
+    ($least:literal to $most:literal, default $default:literal) => {
+        Rule::Number {
+            least: $least,
+            most: $most,
+            default: $default,
+        }
+    };
+}
+
 /// Each key with its rule, in byte order.
 pub const KEYS: [(&str, Rule); 22] = [
-    ("dispatch_mode", Rule::Number { least: 1, most: 5, default: 2 }),
-    ("generation_num", Rule::Number { least: 1, most: 64, default: 1 }),
-    ("max_conn", Rule::Number { least: 1, most: 65_536, default: 1_024 }),
-    ("max_request", Rule::Number { least: 0, most: 4_294_967_295, default: 0 }),
+    ("dispatch_mode", number!(1 to 5, default 2)),
+    ("generation_num", number!(1 to 64, default 1)),
+    ("max_conn", number!(1 to 65_536, default 1_024)),
+    ("max_request", number!(0 to 4_294_967_295, default 0)),
     ("open_eof_split", Rule::Truth),
     ("open_length_check", Rule::Truth),
-    ("package_body_offset", Rule::Number { least: 0, most: 65_535, default: 0 }),
+    ("package_body_offset", number!(0 to 65_535, default 0)),
     ("package_eof", Rule::Text { least: 1, most: 8 }),
-    ("package_length_offset", Rule::Number { least: 0, most: 65_535, default: 0 }),
+    ("package_length_offset", number!(0 to 65_535, default 0)),
     ("package_length_type", Rule::Letter),
-    ("package_max_length", Rule::Number { least: 1, most: 8_388_608, default: 2_097_152 }),
-    ("pipe_capacity", Rule::Number { least: 1, most: 8_192, default: 1_024 }),
-    ("reactor_num", Rule::Number { least: 1, most: 64, default: 1 }),
-    ("read_size", Rule::Number { least: 1, most: 65_536, default: 8_192 }),
-    ("session_last", Rule::Number { least: 0, most: 4_294_967_295, default: 0 }),
-    ("socket_buffer_size", Rule::Number { least: 1, most: 67_108_864, default: 2_097_152 }),
+    (
+        "package_max_length",
+        number!(1 to 8_388_608, default 2_097_152),
+    ),
+    ("pipe_capacity", number!(1 to 8_192, default 1_024)),
+    ("reactor_num", number!(1 to 64, default 1)),
+    ("read_size", number!(1 to 65_536, default 8_192)),
+    ("session_last", number!(0 to 4_294_967_295, default 0)),
+    (
+        "socket_buffer_size",
+        number!(1 to 67_108_864, default 2_097_152),
+    ),
     ("table_columns", Rule::Columns),
-    ("table_last_call", Rule::Number { least: 0, most: 8_796_093_022_207, default: 8_796_093_022_207 }),
-    ("table_percent", Rule::Number { least: 0, most: 100, default: 20 }),
-    ("table_size", Rule::Number { least: 1, most: 524_288, default: 1_024 }),
-    ("task_worker_num", Rule::Number { least: 0, most: 64, default: 0 }),
-    ("worker_num", Rule::Number { least: 1, most: 64, default: 1 }),
+    (
+        "table_last_call",
+        number!(0 to 8_796_093_022_207, default 8_796_093_022_207),
+    ),
+    ("table_percent", number!(0 to 100, default 20)),
+    ("table_size", number!(1 to 524_288, default 1_024)),
+    ("task_worker_num", number!(0 to 64, default 0)),
+    ("worker_num", number!(1 to 64, default 1)),
 ];
 
 /// The keys that the core which drills play knows so far: a drill that sets another one is refused as if it weren't a key.

@@ -4,6 +4,7 @@
 
 mod checks;
 mod columns;
+mod display;
 mod faults;
 mod framings;
 mod given;

@@ -76,3 +76,6 @@ shown_text (Text t) = text_text t.now
 -- a line, without where its parts lie in memory
 abbrev pub seen : Bor (List ℕ) × Shown → List ℕ × List ℕ
 seen line = (line.0.now, shown_text line.1)
+
+abbrev pub seen_text : Bor (List ℕ) × Shown → List ℕ
+seen_text line = line_text (seen line)

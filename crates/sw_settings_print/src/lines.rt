@@ -57,10 +57,19 @@ pub fn lines(settings: &Settings) -> [(&'static str, Shown<'_>); 22]
         ("max_request", Number(settings.max_request() as u64)),
         ("open_eof_split", Truth(settings.open_eof_split())),
         ("open_length_check", Truth(settings.open_length_check())),
-        ("package_body_offset", Number(settings.package_body_offset() as u64)),
+        (
+            "package_body_offset",
+            Number(settings.package_body_offset() as u64),
+        ),
         ("package_eof", Text(mark_text(settings.package_eof()))),
-        ("package_length_offset", Number(settings.package_length_offset() as u64)),
-        ("package_length_type", Text(letter_text(settings.package_length_type()))),
+        (
+            "package_length_offset",
+            Number(settings.package_length_offset() as u64),
+        ),
+        (
+            "package_length_type",
+            Text(letter_text(settings.package_length_type())),
+        ),
         ("package_max_length", Number(settings.package_max_length())),
         ("pipe_capacity", Number(settings.pipe_capacity() as u64)),
         ("reactor_num", Number(settings.reactor_num() as u64)),

@@ -1,8 +1,8 @@
 //! The text that the lines make.
 
-ghost use Rattle.std.specs.Prelude.{◌≡◌, ◌++◌, map, IfOk, OnOk, string_bytes};
+ghost use Rattle.std.specs.Prelude.{◌≡◌, ◌++◌, IfOk, OnOk, string_bytes};
 ghost use Rattle.std.specs.List.{flat_map};
-ghost use Rattle.sw_settings_print.specs.Print.{truth_text, text_text, shown_text, line_text, seen, settings_text};
+ghost use Rattle.sw_settings_print.specs.Print.{truth_text, text_text, shown_text, line_text, seen_text, settings_text};
 
 use crate::lines::{Shown, lines};
 use std::alloc::Global;
@@ -55,7 +55,7 @@ fn put_line(out: &mut String, name: &str, shown: Shown<'_>) -> Result<(), OutOfM
 }
 
 fn put_lines(out: &mut String, lines: &[(&str, Shown<'_>)]) -> Result<(), OutOfMemory>
-    ensures { OnOk result (string_bytes out.new ≡ string_bytes out.old ++ flat_map line_text (map seen lines.now)) }
+    ensures { OnOk result (string_bytes out.new ≡ string_bytes out.old ++ flat_map seen_text lines.now) }
 {
     for line in lines {
         put_line(out, line.0, line.1)?;
@@ -68,6 +68,7 @@ pub fn print(alloc: Global, settings: &Settings) -> Result<String, OutOfMemory>
     ensures { IfOk result (λ text. string_bytes text ≡ settings_text settings.now) }
 {
     let mut out = String::new(alloc);
-    put_lines(&mut out, &lines(settings))?;
+    let made = lines(settings);
+    put_lines(&mut out, &made)?;
     Ok(out)
 }

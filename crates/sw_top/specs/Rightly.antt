@@ -9,6 +9,7 @@ use Rattle.sw_record.specs.Right.{Right}
 use Rattle.sw_drill.specs.Print.{record_text}
 use Rattle.sw_settings.specs.declared.pair.Pair.{Pair}
 use Rattle.sw_settings.specs.Faults.{fault_of}
+use Rattle.sw_settings.specs.Values.{values_of}
 use Rattle.sw_settings.specs.Framings.{framing_of}
 use Rattle.sw_laws.specs.Joint.{core_terms}
 use Rattle.sw_world.specs.Steps.{start, run}
@@ -17,7 +18,7 @@ use Rattle.sw_world.specs.Played.{Played}
 use Rattle.sw_top.specs.declared.status.Status.{Status}
 use Rattle.sw_top.specs.declared.status.Status.TheVariants as statuses
 use Rattle.sw_top.specs.declared.words.Command.{Command}
-use Rattle.sw_top.specs.declared.words.Command.TheVariants.{Drill, Audit}
+use Rattle.sw_top.specs.declared.words.Command.TheVariants.{Drill, Audit, Settings}
 use Rattle.sw_top.specs.Words.{command_of}
 use Rattle.sw_top.specs.Says.{FromSource, FromSink, Meant, IsWritten}
 
@@ -27,15 +28,16 @@ pub record IsRightText (text : List ℕ) : Type 0 where
   pub pairs : List Pair
   pub settled : fault_of pairs ≡ None
   pub steps : List Step
-  pub printed : text ≡ record_text (Played (framing_of pairs) steps)
-  pub right : Right (core_terms (framing_of pairs)) (Played (framing_of pairs) steps) (at_end_of (run steps (start (framing_of pairs))))
-  pub drained : (at : ℕ) (l : LinkRecord) (e : Ended) → slice_get (Played (framing_of pairs) steps).links at ≡ Some l → l.state ≡ Over e → Drained (core_terms (framing_of pairs)) (Played (framing_of pairs) steps)
+  pub printed : text ≡ record_text (Played (framing_of (values_of pairs)) steps)
+  pub right : Right (core_terms (framing_of (values_of pairs))) (Played (framing_of (values_of pairs)) steps) (at_end_of (run steps (start (framing_of (values_of pairs)))))
+  pub drained : (at : ℕ) (l : LinkRecord) (e : Ended) → slice_get (Played (framing_of (values_of pairs)) steps).links at ≡ Some l → l.state ≡ Over e → Drained (core_terms (framing_of (values_of pairs))) (Played (framing_of (values_of pairs)) steps)
 
 -- the text of a drill is such a text
 abbrev pub IsRightFor : Option Command → List ℕ → Type 0
 IsRightFor None text = Unit {0}
 IsRightFor (Some Drill) text = IsRightText text
 IsRightFor (Some Audit) text = Unit {0}
+IsRightFor (Some Settings) text = Unit {0}
 
 -- at Ok the text that was meant and written is such a text, if the words name a drill
 abbrev pub PrintsRight : List (List ℕ) → FromSource → FromSink → Status → Type 0

@@ -3,9 +3,12 @@
 #![tactic(auto)]
 
 mod answering;
+mod auditing;
 mod command;
+mod drilling;
 mod playing;
 mod refusal;
+mod showing;
 mod status;
 mod word;
 mod words;
