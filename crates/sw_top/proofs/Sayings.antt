@@ -1,6 +1,8 @@
 use Rattle.std.proofs.Common.{◌≡◌, ℕ, ◌≤◌, false, true≢false, List, ◌++◌, length, Option, Some, None, Result, Ok, Err, refl, ap, sym, subst, ◌∙◌, inl, inr, arith, length-append}
 use Rattle.std.proofs.lemmas.List.{append-nil}
 use Rattle.std.specs.Option.{option_or}
+use Rattle.std.specs.Prelude.{IfOk}
+use Rattle.sw_base.specs.declared.out_of_memory.OutOfMemory.{OutOfMemory}
 use Rattle.std.specs.Io.KnownBytes.{Consumes, IsAtEnd}
 use Rattle.sw_drill.specs.declared.schedule.Drill.{Drill}
 use Rattle.sw_drill.specs.Draft.{drill_of}
@@ -14,7 +16,7 @@ use Rattle.sw_top.specs.declared.refusal.Refusal.TheVariants.{Line, Settings, Pl
 use Rattle.sw_top.specs.declared.words.Command.{Command}
 use Rattle.sw_top.specs.declared.words.Command.TheVariants.{Drill as DrillCommand, Audit, Settings as SettingsCommand}
 use Rattle.sw_top.specs.Answering.{Answers, shown}
-use Rattle.sw_top.specs.Refusals.{drill_fault, is_memory, refusal_text, refusal_status}
+use Rattle.sw_top.specs.Refusals.{drill_fault, IsMade, IsSettled, is_memory, refusal_text, refusal_status}
 use Rattle.sw_top.specs.Run.{played_or, answered}
 use Rattle.sw_top.specs.Words.{command_of}
 use Rattle.sw_top.specs.Says.{FromSource, FromSink, IsInput, IsAnswered, IsWritten, IsCut, Due, DueBy, Meant, Finishes, cut_status, DoesBy, Said, expected_by, expected, settings_status, Expected, IsComplete}
@@ -196,6 +198,11 @@ unfolding drill_fault
 refused_first ps fault e = core_first (core_fault ps) (fault_of ps) fault e
 
 -- where the core knows all keys, the fault is that of the settings
-pub known_keys : (ps : List Pair) → core_fault ps ≡ None → drill_fault ps ≡ fault_of ps
+known_keys : (ps : List Pair) → core_fault ps ≡ None → drill_fault ps ≡ fault_of ps
 unfolding drill_fault
 known_keys ps e = core_passes (core_fault ps) (fault_of ps) e
+
+pub known_settled : (ps : List Pair) → core_fault ps ≡ None → (r : Result (Result Values SettingsFault) OutOfMemory) → IfOk r (IsMade ps) → IfOk r (IsSettled ps)
+known_settled ps known (Ok (Ok v)) m = (known_keys ps known ∙ m.0, m.1)
+known_settled ps known (Ok (Err fault)) m = known_keys ps known ∙ m
+known_settled ps known (Err e) m = tt

@@ -70,6 +70,11 @@ unfoldable pub drill_fault : List Pair → Option SettingsFault
 drill_fault ps = option_or (core_fault ps) (fault_of ps)
 
 -- the pairs are settings, or are refused for their first fault
+abbrev pub IsMade : List Pair → Result Values SettingsFault → Type 0
+IsMade ps (Ok v) = (fault_of ps ≡ None) × (v ≡ values_of ps)
+IsMade ps (Err fault) = fault_of ps ≡ Some fault
+
+-- the same, where a key that the core doesn't know so far is refused first
 abbrev pub IsSettled : List Pair → Result Values SettingsFault → Type 0
 IsSettled ps (Ok v) = (drill_fault ps ≡ None) × (v ≡ values_of ps)
 IsSettled ps (Err fault) = drill_fault ps ≡ Some fault

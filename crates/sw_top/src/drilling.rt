@@ -1,7 +1,7 @@
 //! The command `drill`: a schedule is played.
 
 ghost use Rattle.std.specs.Prelude.{◌≡◌, Ok, IfOk, string_bytes};
-ghost use Rattle.sw_top.specs.Refusals.{IsSettled};
+ghost use Rattle.sw_top.specs.Refusals.{IsMade, IsSettled};
 ghost use Rattle.sw_top.specs.Run.{answer_of, answered, text_seen};
 
 use crate::playing::played;
@@ -9,16 +9,12 @@ use crate::refusal::{Refusal, is_memory};
 use std::alloc::Global;
 use sw_base::OutOfMemory;
 use sw_drill::{Drill, Pairs, read};
-use sw_settings::{Settings, SettingsFault, core_fault, from_pairs};
+use sw_settings::{Pair, Settings, SettingsFault, core_fault, from_pairs};
 
-/// The settings that the pairs are, or why they are none: a key that the core doesn't know so far is refused first.
-fn settled(alloc: Global, pairs: Pairs) -> Result<Result<Settings, SettingsFault>, OutOfMemory>
-    ensures { IfOk result (IsSettled pairs) }
+/// The settings that the pairs are, or why they are none.
+fn made(alloc: Global, pairs: Vec<Pair>) -> Result<Result<Settings, SettingsFault>, OutOfMemory>
+    ensures { IfOk result (IsMade pairs.items) }
 {
-    let pairs = pairs.into_vec();
-    if let Some(fault) = core_fault(alloc, &pairs)? {
-        return Ok(Err(fault));
-    }
     match from_pairs(alloc, pairs) {
         Ok(settings) => Ok(Ok(settings)),
         Err(fault) => {
@@ -27,6 +23,17 @@ fn settled(alloc: Global, pairs: Pairs) -> Result<Result<Settings, SettingsFault
             }
             Ok(Err(fault))
         }
+    }
+}
+
+/// The same, where a key that the core doesn't know so far is refused first.
+fn settled(alloc: Global, pairs: Pairs) -> Result<Result<Settings, SettingsFault>, OutOfMemory>
+    ensures { IfOk result (IsSettled pairs) }
+{
+    let pairs = pairs.into_vec();
+    match core_fault(alloc, &pairs)? {
+        Some(fault) => Ok(Err(fault)),
+        None => made(alloc, pairs),
     }
 }
 
