@@ -10,6 +10,7 @@ use Rattle.sw_drill.specs.Draft.{drill_of}
 use Rattle.sw_drill.specs.Steps.{steps_of}
 use Rattle.sw_drill.specs.Print.{record_text}
 use Rattle.sw_settings.specs.Faults.{fault_of}
+use Rattle.sw_settings.specs.Values.{values_of}
 use Rattle.sw_settings.specs.Framings.{framing_of}
 use Rattle.sw_laws.specs.Joint.{core_terms}
 use Rattle.sw_world.specs.Steps.{start, run}
@@ -18,7 +19,7 @@ use Rattle.sw_world.specs.Played.{Played}
 use Rattle.sw_top.specs.declared.status.Status.{Status}
 use Rattle.sw_top.specs.declared.status.Status.TheVariants as statuses
 use Rattle.sw_top.specs.declared.words.Command.{Command}
-use Rattle.sw_top.specs.declared.words.Command.TheVariants.{Drill as DrillCommand, Audit}
+use Rattle.sw_top.specs.declared.words.Command.TheVariants.{Drill as DrillCommand, Audit, Settings as SettingsCommand}
 use Rattle.sw_top.specs.Words.{command_of}
 use Rattle.sw_top.specs.Says.{FromSource, FromSink, IsInput, Meant, IsWritten}
 
@@ -28,15 +29,16 @@ pub record IsRightText (input text : List ℕ) : Type 0 where
   pub drill : Drill
   pub read : drill_of input ≡ Ok drill
   pub settled : fault_of drill.pairs ≡ None
-  pub printed : text ≡ record_text (Played (framing_of drill.pairs) (steps_of drill.lines))
-  pub right : Right (core_terms (framing_of drill.pairs)) (Played (framing_of drill.pairs) (steps_of drill.lines)) (at_end_of (run (steps_of drill.lines) (start (framing_of drill.pairs))))
-  pub drained : (at : ℕ) (l : LinkRecord) (e : Ended) → slice_get (Played (framing_of drill.pairs) (steps_of drill.lines)).links at ≡ Some l → l.state ≡ Over e → Drained (core_terms (framing_of drill.pairs)) (Played (framing_of drill.pairs) (steps_of drill.lines))
+  pub printed : text ≡ record_text (Played (framing_of (values_of drill.pairs)) (steps_of drill.lines))
+  pub right : Right (core_terms (framing_of (values_of drill.pairs))) (Played (framing_of (values_of drill.pairs)) (steps_of drill.lines)) (at_end_of (run (steps_of drill.lines) (start (framing_of (values_of drill.pairs)))))
+  pub drained : (at : ℕ) (l : LinkRecord) (e : Ended) → slice_get (Played (framing_of (values_of drill.pairs)) (steps_of drill.lines)).links at ≡ Some l → l.state ≡ Over e → Drained (core_terms (framing_of (values_of drill.pairs))) (Played (framing_of (values_of drill.pairs)) (steps_of drill.lines))
 
 -- the text of a drill is such a text, of all that the source gave
 abbrev pub IsRightFor : Option Command → FromSource → List ℕ → Type 0
 IsRightFor None s text = Unit {0}
 IsRightFor (Some DrillCommand) s text = (input : List ℕ) × IsInput s input × IsRightText input text
 IsRightFor (Some Audit) s text = Unit {0}
+IsRightFor (Some SettingsCommand) s text = Unit {0}
 
 -- at Ok the text that was meant and written is such a text, if the words name a drill
 abbrev pub PrintsRight : List (List ℕ) → FromSource → FromSink → Status → Type 0

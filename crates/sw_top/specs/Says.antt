@@ -8,14 +8,15 @@ use Rattle.sw_audit.specs.declared.verdict.AuditFault.TheVariants as faults
 use Rattle.sw_audit.specs.Verdicts.{IsAudit}
 use Rattle.sw_audit.specs.Printing.{verdict_text}
 use Rattle.sw_top.specs.declared.words.Command.{Command}
-use Rattle.sw_top.specs.declared.words.Command.TheVariants.{Drill as DrillCommand, Audit}
+use Rattle.sw_top.specs.declared.words.Command.TheVariants.{Drill as DrillCommand, Audit, Settings as SettingsCommand}
 use Rattle.sw_top.specs.Words.{command_of}
 use Rattle.sw_top.specs.Answering.{Answers}
 use Rattle.sw_top.specs.declared.refusal.Refusal.{Refusal}
-use Rattle.sw_top.specs.Refusals.{line_text, settings_text}
+use Rattle.sw_top.specs.Refusals.{drill_fault, line_text, settings_text}
 use Rattle.sw_top.specs.declared.refusal.Refusal.TheVariants.{Line, Settings, Place}
 use Rattle.sw_settings.specs.declared.faults.SettingsFault.{SettingsFault}
-use Rattle.sw_settings.specs.Faults.{fault_of}
+use Rattle.sw_settings.specs.declared.values.Values.{Values}
+use Rattle.sw_settings_json.specs.Json.{json_settings}
 use Rattle.sw_drill.specs.declared.schedule.Drill.{Drill}
 use Rattle.sw_drill.specs.Draft.{drill_of}
 use Rattle.sw_top.specs.declared.status.Status.{Status}
@@ -136,7 +137,7 @@ expected_by (Some fault) = statuses.Settings fault
 
 -- the status of a text that was read whole
 abbrev pub expected : Result Drill ℕ → Status
-expected (Ok d) = expected_by (fault_of d.pairs)
+expected (Ok d) = expected_by (drill_fault d.pairs)
 expected (Err n) = statuses.BadLine n
 
 -- the status of a trace that was read whole: that of its verdict, or of its first line out of the grammar
@@ -151,10 +152,16 @@ Judged input statuses.ReadFault = ⊥
 Judged input statuses.WriteFault = ⊥
 Judged input statuses.OutOfMemory = ⊥
 
+-- the status of settings in JSON
+abbrev pub settings_status : Result Values SettingsFault → Status
+settings_status (Ok v) = statuses.Ok
+settings_status (Err fault) = statuses.Settings fault
+
 -- the status that the input alone asks for
 abbrev pub Expected : Command → List ℕ → Status → Type 0
 Expected DrillCommand input status = status ≡ expected (drill_of input)
 Expected Audit input status = Judged input status
+Expected SettingsCommand input status = status ≡ settings_status (json_settings input)
 
 -- without a fault, an input that isn't too long is answered by its text alone, unless memory runs out
 abbrev pub IsComplete : List (List ℕ) → FromSource → FromSink → Status → Type 0

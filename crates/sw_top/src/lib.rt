@@ -3,10 +3,13 @@
 #![tactic(auto)]
 
 mod answering;
+mod auditing;
 mod command;
+mod drilling;
 mod line;
 mod playing;
 mod refusal;
+mod showing;
 mod status;
 mod word;
 mod words;
