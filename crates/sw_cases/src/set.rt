@@ -5,6 +5,7 @@ use crate::framings::word_of;
 use crate::output::put_bytes;
 use std::alloc::{AllocError, Global};
 use sw_base::{Octets, OutOfMemory};
+use sw_column::ColumnFault;
 use sw_frame::Framing;
 use sw_settings::{Pair, SetValue, Settings, SettingsFault, from_pairs};
 use sw_text::cut;
@@ -50,6 +51,7 @@ fn put_key(out: &mut String, word: &str, key: &Octets) -> Result<(), AllocError>
 
 fn put_fault(out: &mut String, fault: &SettingsFault) -> Result<(), AllocError> {
     match fault {
+        SettingsFault::NotJson => out.push_str("notjson"),
         SettingsFault::Unknown(key) => put_key(out, "unknown", key),
         SettingsFault::BadType(key) => put_key(out, "type", key),
         SettingsFault::Range(key, least, most) => {
@@ -61,7 +63,23 @@ fn put_fault(out: &mut String, fault: &SettingsFault) -> Result<(), AllocError> 
             put_key(out, "conflict", key)?;
             put_key(out, "", other)
         }
+        SettingsFault::Column(name, fault) => {
+            put_key(out, "column", name)?;
+            write!(out, " {}", column_word(*fault))
+        }
         SettingsFault::OutOfMemory => out.push_str("memory"),
+    }
+}
+
+/// The word of a column's refusal.
+fn column_word(fault: ColumnFault) -> &'static str {
+    match fault {
+        ColumnFault::TooMany => "toomany",
+        ColumnFault::BadName => "badname",
+        ColumnFault::Twice => "twice",
+        ColumnFault::Float => "float",
+        ColumnFault::BadSize => "badsize",
+        ColumnFault::OutOfMemory => "memory",
     }
 }
 
