@@ -1,3 +1,4 @@
+-- What reads and writes tell of bytes, ends and counts of faults.
 use Rattle.std.specs.Prelude.{◌≡◌, ℕ, ◌+◌, ◌≤◌, ◌<◌, min, List, [], length, take, Option, Bool, true}
 use Rattle.std.specs.Io.KnownBytes.{Consumes, Appends, Keeps, IsAtEnd}
 use Rattle.sw_causes.specs.declared.traits.ReadGot.{ReadGot}

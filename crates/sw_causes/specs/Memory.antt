@@ -1,3 +1,4 @@
+-- Sources and sinks in memory, by their lists of failing calls.
 use Rattle.std.specs.Prelude.{ℕ, List, drop, Bool}
 use Rattle.std.specs.List.{Contains}
 use Rattle.sw_causes.specs.declared.memory_source.MemorySource.{MemorySource}

@@ -8,8 +8,8 @@ ghost use Rattle.serde_json.specs.Read.{read};
 ghost use Rattle.sw_settings.specs.declared.pair.Pair.{Pair};
 ghost use Rattle.sw_settings_json.specs.Json.{number_value, value_of, pairs_of, pairs_in};
 
-use serde_json::{Number, Value};
 use serde_json::value::Map;
+use serde_json::{Number, Value};
 use std::alloc::Global;
 use sw_base::{Octets, OutOfMemory};
 use sw_settings::{Pair, SetValue};

@@ -1,13 +1,13 @@
 -- The text of a drill is that of a right record.
 use Rattle.std.proofs.Common.{◌≡◌, ℕ, List, [], ◌∷◌, refl, ap, ◌∙◌, sym, subst, Option, Result, Ok, Err, Some, None, slice_get}
 use Rattle.std.specs.Option.{option_or}
-use Rattle.sw_data.specs.declared.ended.Ended.{Ended}
+use Rattle.sw_thin_data.specs.declared.ended.Ended.{Ended}
 use Rattle.sw_frame.specs.declared.framing.Framing.{Framing}
-use Rattle.sw_record.specs.declared.step.Step.{Step}
-use Rattle.sw_record.specs.declared.record.LinkRecord.{LinkRecord}
-use Rattle.sw_record.specs.declared.record.LinkState.TheVariants.{Over}
-use Rattle.sw_record.specs.Ends.{Drained}
-use Rattle.sw_record.specs.Right.{Right}
+use Rattle.sw_thin_record.specs.declared.step.Step.{Step}
+use Rattle.sw_thin_record.specs.declared.record.LinkRecord.{LinkRecord}
+use Rattle.sw_thin_record.specs.declared.record.LinkState.TheVariants.{Over}
+use Rattle.sw_thin_record.specs.Ends.{Drained}
+use Rattle.sw_thin_record.specs.Right.{Right}
 use Rattle.sw_settings.specs.declared.pair.Pair.{Pair}
 use Rattle.sw_settings.specs.declared.faults.SettingsFault.{SettingsFault}
 use Rattle.sw_settings.specs.Faults.{core_fault, fault_of}
@@ -19,13 +19,13 @@ use Rattle.sw_drill.specs.declared.schedule.Drill.{Drill}
 use Rattle.sw_drill.specs.Draft.{drill_of}
 use Rattle.sw_drill.specs.Print.{record_text}
 use Rattle.sw_drill.specs.Steps.{steps_of}
-use Rattle.sw_laws.specs.Joint.{core_terms}
-use Rattle.sw_world.specs.declared.state.State.{State}
-use Rattle.sw_world.specs.Steps.{start, run}
-use Rattle.sw_world.specs.Account.{record_of, at_end_of}
-use Rattle.sw_world.specs.Played.{Played}
-use Rattle.sw_world.proofs.Start.{framing_run}
-use Rattle.sw_world.proofs.Reached.{right_reached, drained_reached}
+use Rattle.sw_thin_laws.specs.Joint.{core_terms}
+use Rattle.sw_thin_world.specs.declared.state.State.{State}
+use Rattle.sw_thin_world.specs.Steps.{start, run}
+use Rattle.sw_thin_world.specs.Account.{record_of, at_end_of}
+use Rattle.sw_thin_world.specs.Played.{Played}
+use Rattle.sw_thin_world.proofs.Start.{framing_run}
+use Rattle.sw_thin_world.proofs.Reached.{right_reached, drained_reached}
 use Rattle.sw_top.specs.declared.status.Status.{Status}
 use Rattle.sw_top.specs.declared.status.Status.TheVariants as statuses
 use Rattle.sw_top.specs.Refusals.{drill_fault}

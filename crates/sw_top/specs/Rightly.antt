@@ -1,10 +1,10 @@
 -- What a user relies on, of the record that is printed.
 use Rattle.std.specs.Prelude.{◌≡◌, ℕ, List, slice_get, Option, Some, None, Ok}
-use Rattle.sw_data.specs.declared.ended.Ended.{Ended}
-use Rattle.sw_record.specs.declared.record.LinkRecord.{LinkRecord}
-use Rattle.sw_record.specs.declared.record.LinkState.TheVariants.{Over}
-use Rattle.sw_record.specs.Ends.{Drained}
-use Rattle.sw_record.specs.Right.{Right}
+use Rattle.sw_thin_data.specs.declared.ended.Ended.{Ended}
+use Rattle.sw_thin_record.specs.declared.record.LinkRecord.{LinkRecord}
+use Rattle.sw_thin_record.specs.declared.record.LinkState.TheVariants.{Over}
+use Rattle.sw_thin_record.specs.Ends.{Drained}
+use Rattle.sw_thin_record.specs.Right.{Right}
 use Rattle.sw_drill.specs.declared.schedule.Drill.{Drill}
 use Rattle.sw_drill.specs.Draft.{drill_of}
 use Rattle.sw_drill.specs.Steps.{steps_of}
@@ -12,10 +12,10 @@ use Rattle.sw_drill.specs.Print.{record_text}
 use Rattle.sw_settings.specs.Faults.{fault_of}
 use Rattle.sw_settings.specs.Values.{values_of}
 use Rattle.sw_settings.specs.Framings.{framing_of}
-use Rattle.sw_laws.specs.Joint.{core_terms}
-use Rattle.sw_world.specs.Steps.{start, run}
-use Rattle.sw_world.specs.Account.{at_end_of}
-use Rattle.sw_world.specs.Played.{Played}
+use Rattle.sw_thin_laws.specs.Joint.{core_terms}
+use Rattle.sw_thin_world.specs.Steps.{start, run}
+use Rattle.sw_thin_world.specs.Account.{at_end_of}
+use Rattle.sw_thin_world.specs.Played.{Played}
 use Rattle.sw_top.specs.declared.status.Status.{Status}
 use Rattle.sw_top.specs.declared.status.Status.TheVariants as statuses
 use Rattle.sw_top.specs.declared.words.Command.{Command}

@@ -1,3 +1,4 @@
+-- The text that an input leads to.
 use Rattle.std.specs.Prelude.{ℕ, List, [], ◌∷◌, Option, Some, None, Result, Ok, Err}
 use Rattle.sw_settings.specs.declared.faults.SettingsFault.{SettingsFault}
 use Rattle.sw_settings.specs.declared.values.Values.{Values}
@@ -8,10 +9,10 @@ use Rattle.sw_drill.specs.declared.schedule.Drill.{Drill}
 use Rattle.sw_drill.specs.Draft.{drill_of}
 use Rattle.sw_drill.specs.Steps.{steps_of}
 use Rattle.sw_drill.specs.Print.{record_text}
-use Rattle.sw_record.specs.declared.step.Step.{Step}
-use Rattle.sw_world.specs.declared.state.State.{State}
-use Rattle.sw_world.specs.Steps.{start, next}
-use Rattle.sw_world.specs.Account.{record_of}
+use Rattle.sw_thin_record.specs.declared.step.Step.{Step}
+use Rattle.sw_thin_world.specs.declared.state.State.{State}
+use Rattle.sw_thin_world.specs.Steps.{start, next}
+use Rattle.sw_thin_world.specs.Account.{record_of}
 use Rattle.sw_top.specs.Refusals.{drill_fault}
 use Rattle.sw_top.specs.declared.refusal.Refusal.{Refusal}
 use Rattle.sw_top.specs.declared.refusal.Refusal.TheVariants.{Line, Settings}

@@ -1,3 +1,4 @@
+-- The command that words name.
 use Rattle.std.specs.Prelude.{ℕ, List, [], ◌∷◌, codes, Option, Some, None, if◌then◌else◌}
 use Rattle.std.specs.Str.{bytes_eq}
 use Rattle.sw_top.specs.declared.words.Command.{Command}

@@ -13,7 +13,11 @@ use sw_causes::{Sink, Source};
 fn words_of(alloc: Global, arguments: Vec<String>) -> Result<Vec<Word>, AllocError>
     ensures { IfOk result (λ words. words.items ≡ map string_bytes (drop 1 arguments.items)) }
 {
-    arguments.into_iter().skip(1).map(|text| Word::new(text)).collect(alloc)
+    arguments
+        .into_iter()
+        .skip(1)
+        .map(|text| Word::new(text))
+        .collect(alloc)
 }
 
 /// Does what the arguments ask for, as `tool` does, and answers the number that the program ends with. `None` says that

@@ -1,16 +1,16 @@
 //! A schedule is played: each line's steps are taken by the core, and the record of what happened is printed.
 
 ghost use Rattle.std.specs.Prelude.{◌≡◌, ℕ, ◌<◌, ◌≤◌, length, replicate, OnOk, IfOk, string_bytes};
-ghost use Rattle.sw_record.specs.declared.step.Step.TheVariants.{Turn};
+ghost use Rattle.sw_thin_record.specs.declared.step.Step.TheVariants.{Turn};
 ghost use Rattle.sw_drill.specs.Steps.{round, rounds, steps_of_line, steps_of};
 ghost use Rattle.sw_top.specs.Run.{stepped, played, fresh, account_text, drill_text};
 
 use std::alloc::Global;
 use sw_base::OutOfMemory;
 use sw_drill::{Line, Lines, print};
-use sw_record::{ActorId, Step};
 use sw_settings::Settings;
-use sw_world::World;
+use sw_thin_record::{ActorId, Step};
+use sw_thin_world::World;
 
 #[tactic(auto, unfolding(crate::specs::Run::fresh))]
 fn make(alloc: Global, settings: &Settings) -> Result<World, OutOfMemory>

@@ -1,4 +1,4 @@
-use Rattle.sw_record.specs.declared.step.Step.TheVariants.{Turn}
+use Rattle.sw_thin_record.specs.declared.step.Step.TheVariants.{Turn}
 use Rattle.sw_top.proofs.PlayedLaw.{none_played, turn_more}
 use Rattle.sw_top.proofs.playing.turns.Goals as goal
 

@@ -1,6 +1,6 @@
 use Rattle.std.proofs.Common.{◌≡◌}
 use Rattle.std.specs.Prelude.{replicate}
-use Rattle.sw_record.specs.declared.step.Step.TheVariants.{Turn}
+use Rattle.sw_thin_record.specs.declared.step.Step.TheVariants.{Turn}
 use Rattle.sw_top.specs.Run.{played}
 use Rattle.sw_top.proofs.playing.turns.Given as goal
 
