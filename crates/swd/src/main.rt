@@ -6,6 +6,14 @@ use std::{env, io};
 use sw_causes::{ReaderSource, WriterSink};
 use sw_top::command_line;
 
+/// What is printed on standard error beside `fault usage`.
+const USAGE: &str = "usage: swd drill     reads a schedule, plays it and prints the record
+       swd settings  reads a JSON object and prints all settings
+       swd audit     reads a trace of calls of the Table and judges it";
+
+/// The exit status of words that are no command.
+const IS_USAGE: u8 = 2;
+
 /// The arguments, of which the first is the program's own name.
 fn arguments(rt: &HostRuntime) -> io::Result<Vec<String>> {
     let mut all = Vec::new(rt.alloc());
@@ -19,5 +27,9 @@ fn main(rt: HostRuntime) -> ExitCode {
     let mut source = ReaderSource::new(rt.reader());
     let mut sink = WriterSink::new(io::writer(&rt));
     let arguments = arguments(&rt).ok();
-    ExitCode::from(command_line(rt.alloc(), arguments, &mut source, &mut sink))
+    let status = command_line(rt.alloc(), arguments, &mut source, &mut sink);
+    if status == IS_USAGE {
+        let _ = eprintln!(rt; "{USAGE}");
+    }
+    ExitCode::from(status)
 }
