@@ -1,0 +1,10 @@
+//! What each actor keeps by its own history alone, what the things that actors share keep, and the join: from these laws
+//! the record is right, and drained once all actors are finished. Nothing here speaks of a turn, a step or a thread.
+#![tactic(auto)]
+
+mod laws;
+
+pub use laws::{
+    end_laws_make_it_drained, few_laws_make_it_orderly, laws_make_it_right,
+    marks_make_calls_come_after,
+};
