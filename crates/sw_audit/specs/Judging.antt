@@ -1,3 +1,4 @@
+-- How a verdict is reached; not seen from outside.
 use Rattle.std.specs.Prelude.{◌≡◌, ℕ, ◌<◌, ◌≤◌, List, [], length, drop, slice_get, slice_index_or, Option, Some, None, Bool, true, false, nat_lt, if◌then◌else◌}
 use Rattle.std.specs.Ordering.{int_eq}
 use Rattle.std.specs.Str.{bytes_eq}

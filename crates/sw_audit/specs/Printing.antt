@@ -1,3 +1,4 @@
+-- The line of a verdict.
 use Rattle.std.specs.Prelude.{ℕ, List, ◌++◌, codes}
 use Rattle.std.specs.Fmt.{decimal}
 use Rattle.sw_audit.specs.declared.verdict.Verdict.{Verdict}

@@ -1,3 +1,4 @@
+-- The four ways in which a place of a trace is bad, and the verdict.
 use Rattle.std.specs.Prelude.{◌≡◌, ℕ, zero, suc, ◌<◌, List, [], ◌++◌, length, map, filter, Contains, slice_get, Some, Result, Ok, Err, nat_eq, ◌⊎◌}
 use Rattle.sw_table_laws.specs.Table.{Shape, Step, Entry, TStep, after}
 use Rattle.sw_table_laws.specs.Sizes.{raised, pool_of}

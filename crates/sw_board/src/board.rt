@@ -50,7 +50,8 @@ pub struct ShortBoard {
 
 /// Ends a board, given all its seats. The list is not empty, and its seats are of one board.
 ///
-/// `ShortBoard` comes exactly where a seat of the board is missing.
+/// `ShortBoard` comes exactly where not as many seats are given as the board has; a seat is a token, of which there is no
+/// second, so then one is missing.
 pub fn close(seats: Vec<Seat>) -> Result<(), ShortBoard>
     requires { AreOfOneBoard seats.items }
     ensures stops { IfOk result (λ _. StopsMade seats.items) }

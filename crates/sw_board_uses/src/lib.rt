@@ -3,6 +3,8 @@
 
 mod counting;
 #[cfg(test)]
+mod plain_tests;
+#[cfg(test)]
 mod tests;
 
 pub use counting::{add_times, count_by_two};

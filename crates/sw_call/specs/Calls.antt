@@ -1,3 +1,4 @@
+-- What a text of a call is.
 use Rattle.std.specs.Prelude.{ℕ, List, [], codes, Option, Some, None, ℤ, if◌then◌else◌}
 use Rattle.std.specs.Str.{bytes_eq}
 use Rattle.sw_text.specs.Then.{◌>>=◌}

@@ -1,3 +1,4 @@
+-- A text in two at a separator.
 use Rattle.std.specs.Prelude.{ℕ, List, [], ◌∷◌, ◌++◌, Option, Some, None, nat_eq, if◌then◌else◌}
 use Rattle.sw_text.specs.Parts.{onto_first}
 

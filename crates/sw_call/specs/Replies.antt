@@ -1,3 +1,4 @@
+-- What a text of a reply is.
 use Rattle.std.specs.Prelude.{ℕ, List, [], codes, Option, Some, None, if◌then◌else◌}
 use Rattle.std.specs.Str.{bytes_eq}
 use Rattle.sw_text.specs.Then.{◌>>=◌}

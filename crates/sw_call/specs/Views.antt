@@ -1,3 +1,4 @@
+-- What contracts see of the values that texts are read as.
 use Rattle.std.specs.Prelude.{ℕ, List, Option}
 use Rattle.std.specs.Borrow.{Bor}
 use Rattle.std.specs.Option.{option_map}

@@ -14,6 +14,3 @@ pub use calls::{call, verb};
 pub use column_texts::{Columns, Refused, columns, schema};
 pub use values::value;
 pub use verbs::Verb;
-
-#[cfg(test)]
-mod tests;

@@ -1,3 +1,4 @@
+-- What reads and writes tell of bytes, ends and counts of faults.
 use Rattle.std.specs.Prelude.{◌≡◌, ℕ, ◌+◌, ◌≤◌, ◌<◌, min, List, [], length, take, Option, Bool, true}
 use Rattle.std.specs.Io.KnownBytes.{Consumes, Appends, Keeps, IsAtEnd}
 use Rattle.sw_causes.specs.declared.traits.ReadGot.{ReadGot}
@@ -12,6 +13,17 @@ most = 18446744073709551615
 -- a count rose, or stands at the most that it shows
 abbrev pub Rises : ℕ → ℕ → Type 0
 Rises old new = min (old + 1) most ≤ new
+
+-- the count of faults rises where a read fails, and nowhere else
+abbrev pub CountsRead : ℕ → ℕ → ReadGot → Type 0
+CountsRead old new (gots.Got n) = new ≡ old
+CountsRead old new gots.End = new ≡ old
+CountsRead old new gots.Failed = Rises old new
+
+-- and so where a write fails
+abbrev pub CountsWrite : ℕ → ℕ → WriteTook → Type 0
+CountsWrite old new (tooks.Took n) = new ≡ old
+CountsWrite old new tooks.Failed = Rises old new
 
 -- what a read tells of the bytes left before and after it
 abbrev pub TellsRead : Option (List ℕ) → Option (List ℕ) → List ℕ → ReadGot → Type 0

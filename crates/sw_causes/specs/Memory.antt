@@ -1,3 +1,4 @@
+-- Sources and sinks in memory, by their lists of failing calls.
 use Rattle.std.specs.Prelude.{ℕ, List, drop, Bool}
 use Rattle.std.specs.List.{Contains}
 use Rattle.sw_causes.specs.declared.memory_source.MemorySource.{MemorySource}
@@ -37,6 +38,10 @@ failing_writes s = s.failing.items
 
 abbrev pub writes_made : MemorySink → ℕ
 writes_made s = s.calls
+
+-- a write found no memory
+abbrev pub sink_lost : MemorySink → Bool
+sink_lost s = s.lost
 
 -- the number of the next write stands in the list of those that fail
 abbrev pub FailsNextWrite : MemorySink → Type 0

@@ -1,3 +1,4 @@
+-- A source that never fails.
 use Rattle.std.specs.Prelude.{ℕ, List, drop}
 use Rattle.sw_causes.specs.declared.sure.SureSource.{SureSource}
 

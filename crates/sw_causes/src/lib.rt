@@ -15,6 +15,3 @@ pub use memory_source::MemorySource;
 pub use sure::{SureSink, SureSource};
 pub use traits::{ReadGot, Sink, Source, WriteTook};
 pub use whole::{InputFault, LIMIT, WriteFailed, read_whole, write_whole};
-
-#[cfg(test)]
-mod tests;

@@ -1,6 +1,6 @@
 //! A sink that keeps what it took, and whose writes fail where a list says so.
 
-ghost use Rattle.std.specs.Prelude.{◌≡◌, ℕ, ◌≤◌, ◌+◌, [], length, min, Some};
+ghost use Rattle.std.specs.Prelude.{◌≡◌, ◌⊎◌, ℕ, ◌≤◌, ◌+◌, [], length, min, Some, true, false};
 
 use crate::traits::{Sink, WriteTook};
 use std::alloc::Global;
@@ -16,10 +16,12 @@ pub struct MemorySink {
     failing: Vec<u64>,
     calls: u64,
     faults: u64,
+    // A write found no memory.
+    lost: bool,
 }
 
 impl MemorySink {
-    ghost use Rattle.sw_causes.specs.Memory.{bytes_taken, sink_faults, failing_writes, writes_made};
+    ghost use Rattle.sw_causes.specs.Memory.{bytes_taken, sink_faults, failing_writes, writes_made, sink_lost};
 
     /// A sink that took nothing yet.
     pub fn new(alloc: Global, failing: Vec<u64>) -> MemorySink
@@ -27,12 +29,14 @@ impl MemorySink {
         ensures faults { sink_faults result ≡ 0 }
         ensures failing { failing_writes result ≡ failing.items }
         ensures made { writes_made result ≡ 0 }
+        ensures lost { sink_lost result ≡ false }
     {
         MemorySink {
             bytes: Vec::new(alloc),
             failing,
             calls: 0,
             faults: 0,
+            lost: false,
         }
     }
 
@@ -42,22 +46,30 @@ impl MemorySink {
     {
         self.bytes.as_slice()
     }
+
+    /// Whether a write found no memory.
+    pub fn lost(&self) -> bool
+        ensures { result ≡ sink_lost self.now }
+    {
+        self.lost
+    }
 }
 
 impl Sink for MemorySink {
-    ghost use Rattle.sw_causes.specs.Causes.{TellsWrite, Rises, most};
-    ghost use Rattle.sw_causes.specs.Memory.{bytes_taken, sink_faults, failing_writes, writes_made, FailsNextWrite};
+    ghost use Rattle.sw_causes.specs.Causes.{TellsWrite, CountsWrite, most};
+    ghost use Rattle.sw_causes.specs.Memory.{bytes_taken, sink_faults, failing_writes, writes_made, sink_lost, FailsNextWrite};
 
     ghost taken = { λ s. Some (bytes_taken s) };
 
     ghost faults = { λ s. sink_faults s };
 
-    /// Fails where the list says so, and where it finds no memory.
+    /// Fails where the list says so, and else only where it finds no memory, which it tells by `lost`.
     fn write(&mut self, piece: &[u8]) -> WriteTook
         ensures tells { TellsWrite (Some (bytes_taken self.old)) (Some (bytes_taken self.new)) piece.now result }
         ensures never_falls { sink_faults self.old ≤ sink_faults self.new }
-        ensures failed { result ≡ WriteTook.Failed → Rises (sink_faults self.old) (sink_faults self.new) }
-        ensures fails { FailsNextWrite self.old → result ≡ WriteTook.Failed }
+        ensures counts { CountsWrite (sink_faults self.old) (sink_faults self.new) result }
+        ensures fails { FailsNextWrite self.old → (result ≡ WriteTook.Failed) × (sink_lost self.new ≡ sink_lost self.old) }
+        ensures alone { result ≡ WriteTook.Failed → FailsNextWrite self.old ⊎ (sink_lost self.new ≡ true) }
         ensures made { writes_made self.new ≡ min (writes_made self.old + 1) most }
         ensures failing { failing_writes self.new ≡ failing_writes self.old }
         ensures took { (n : ℕ) → result ≡ WriteTook.Took n → n ≡ min (length piece.now) 65536 }
@@ -70,6 +82,7 @@ impl Sink for MemorySink {
         }
         let n = piece.len().min(MOST);
         if self.bytes.extend_from_slice(&piece[..n]).is_err() {
+            self.lost = true;
             self.faults = self.faults.saturating_add(1);
             return WriteTook::Failed;
         }

@@ -11,6 +11,7 @@ pub fn fill(buf: &mut [u8], ahead: &[u8]) -> usize
     requires some { 0 < length ahead.now }
     ensures len { length buf.new ≡ length buf.old }
     ensures within { (0 < result) × (result ≤ length buf.old) × (result ≤ length ahead.now) }
+    ensures all { result ≡ min (length ahead.now) (length buf.old) }
     ensures front { take result buf.new ≡ take result ahead.now }
 {
     let n = ahead.len().min(buf.len());
@@ -53,7 +54,7 @@ impl MemorySource {
 }
 
 impl Source for MemorySource {
-    ghost use Rattle.sw_causes.specs.Causes.{TellsRead, EndsRead, Rises, most};
+    ghost use Rattle.sw_causes.specs.Causes.{TellsRead, EndsRead, CountsRead, most};
     ghost use Rattle.sw_causes.specs.Memory.{bytes_left, source_faults, source_ended, failing_reads, reads_made, FailsNextRead};
 
     ghost left = { λ s. Some (bytes_left s) };
@@ -69,8 +70,9 @@ impl Source for MemorySource {
         ensures tells { TellsRead (Some (bytes_left self.old)) (Some (bytes_left self.new)) buf.new result }
         ensures ends { EndsRead (source_ended self.old) (source_ended self.new) result }
         ensures never_falls { source_faults self.old ≤ source_faults self.new }
-        ensures failed { result ≡ ReadGot.Failed → Rises (source_faults self.old) (source_faults self.new) }
+        ensures counts { CountsRead (source_faults self.old) (source_faults self.new) result }
         ensures fails { (result ≡ ReadGot.Failed) ↔ FailsNextRead self.old }
+        ensures got { (n : ℕ) → result ≡ ReadGot.Got n → n ≡ min (length (bytes_left self.old)) (length buf.old) }
         ensures made { reads_made self.new ≡ min (reads_made self.old + 1) most }
         ensures failing { failing_reads self.new ≡ failing_reads self.old }
     {

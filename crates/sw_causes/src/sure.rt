@@ -1,6 +1,6 @@
 //! A source and a sink that never fail: their counts of faults are 0 for good.
 
-ghost use Rattle.std.specs.Prelude.{◌≡◌, ℕ, List, length, Option, Some, None, Bool, false};
+ghost use Rattle.std.specs.Prelude.{◌≡◌, ◌≤◌, ℕ, List, length, Option, Some, None, Bool, false};
 
 use crate::memory_source::fill;
 use crate::traits::{ReadGot, Sink, Source, WriteTook};
@@ -55,11 +55,19 @@ impl Source for SureSource {
 pub struct SureSink;
 
 impl Sink for SureSink {
+    ghost use Rattle.sw_causes.specs.Causes.{TellsWrite, CountsWrite};
+
     ghost taken = { λ _. None };
 
     ghost faults = { λ _. 0 };
 
-    fn write(&mut self, piece: &[u8]) -> WriteTook {
+    /// Takes the whole piece.
+    fn write(&mut self, piece: &[u8]) -> WriteTook
+        ensures tells { TellsWrite None None piece.now result }
+        ensures never_falls { 0 ≤ 0 }
+        ensures counts { CountsWrite 0 0 result }
+        ensures took { result ≡ WriteTook.Took (length piece.now) }
+    {
         WriteTook::Took(piece.len())
     }
 }

@@ -1,7 +1,8 @@
-//! The two traits of the outside. A fault is never told without its cause: Failed comes only where the count of faults rose.
+//! The two traits of the outside. A fault is never told without its cause: the count of faults rises exactly where Failed
+//! comes, as far as it goes.
 
 ghost use Rattle.std.specs.Prelude.{◌≡◌, ℕ, ◌≤◌, ◌<◌, List, length, Option, Bool};
-ghost use Rattle.sw_causes.specs.Causes.{TellsRead, EndsRead, TellsWrite, Rises};
+ghost use Rattle.sw_causes.specs.Causes.{TellsRead, EndsRead, TellsWrite, CountsRead, CountsWrite};
 
 /// What a read gave.
 #[derive(Clone, Copy, Debug, PartialEq, Eq)]
@@ -41,7 +42,7 @@ pub trait Source {
         ensures tells { TellsRead (left self.old) (left self.new) buf.new result }
         ensures ends { EndsRead (ended self.old) (ended self.new) result }
         ensures never_falls { faults self.old ≤ faults self.new }
-        ensures failed { result ≡ ReadGot.Failed → Rises (faults self.old) (faults self.new) };
+        ensures counts { CountsRead (faults self.old) (faults self.new) result };
 }
 
 /// Something that bytes are written to.
@@ -56,5 +57,5 @@ pub trait Sink {
     fn write(&mut self, piece: &[u8]) -> WriteTook
         ensures tells { TellsWrite (taken self.old) (taken self.new) piece.now result }
         ensures never_falls { faults self.old ≤ faults self.new }
-        ensures failed { result ≡ WriteTook.Failed → Rises (faults self.old) (faults self.new) };
+        ensures counts { CountsWrite (faults self.old) (faults self.new) result };
 }

@@ -9,6 +9,9 @@ use std::alloc::{AllocError, Global};
 /// The most bytes of an input.
 pub const LIMIT: usize = 67_108_864;
 
+/// The most bytes that one read takes.
+const CHUNK: usize = 16_384;
+
 /// Why a source was not read to its end.
 #[derive(Clone, Copy, Debug, PartialEq, Eq)]
 pub enum InputFault {
@@ -49,14 +52,14 @@ pub fn bytes_from(bytes: &[u8], at: usize) -> &[u8]
     &bytes[at..]
 }
 
-/// Reads all that the source gives, up to its end. Long comes exactly where more than `LIMIT` bytes came, and Failed where
-/// a read failed before that. After an error the bytes that were read are lost.
+/// Reads all that the source gives, up to its end. Long comes exactly where more than `LIMIT` bytes came, at the read that
+/// goes past it, and Failed where a read failed before that. After an error the bytes that were read are lost.
 pub fn read_whole<S: Source>(alloc: Global, source: &mut S) -> Result<Vec<u8>, InputFault>
     ensures whole { ReadsWhole (S.left source.old) (S.left source.new) (S.faults source.old) (S.faults source.new) (S.ended source.new) result }
     ensures never_falls { S.faults source.old ≤ S.faults source.new }
 {
     let mut bytes = Vec::new(alloc);
-    let mut buf = [0u8; 16_384];
+    let mut buf = [0u8; CHUNK];
     for _ in 0..LIMIT + 1 {
         match source.read(&mut buf) {
             ReadGot::Failed => return Err(InputFault::Failed),

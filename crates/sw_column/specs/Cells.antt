@@ -1,3 +1,4 @@
+-- The places of a row's buffer.
 use Rattle.std.specs.Prelude.{ℕ, List, [], take, Option, Some, None, Bool, true, false, nat_eq, ℤ, pos}
 use Rattle.sw_base.specs.declared.table.Value.{Value}
 use Rattle.sw_base.specs.declared.table.Value.TheVariants as values

@@ -1,3 +1,4 @@
+-- Columns: where one stands, what may join, and what holds of all.
 use Rattle.std.specs.Prelude.{◌≡◌, ℕ, ◌+◌, ◌≤◌, IsTrue, List, length, is_some, slice_get, sum_by, position, option_and_then, Option, Some, None, Bool, false, ◌&&◌, ◌||◌, not, nat_eq, nat_le, if◌then◌else◌}
 use Rattle.std.specs.List.{list_all}
 use Rattle.std.specs.Str.{bytes_eq}

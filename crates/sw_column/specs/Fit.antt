@@ -1,3 +1,4 @@
+-- Why a call doesn't fit the columns.
 use Rattle.std.specs.Prelude.{ℕ, ◌*◌, ◌-◌, ◌^◌, List, [], ◌∷◌, length, Option, Some, None, Bool, ◌&&◌, nat_lt, nat_le, if◌then◌else◌, ℤ, pos, negsuc}
 use Rattle.sw_base.specs.declared.table.Value.{Value}
 use Rattle.sw_base.specs.declared.table.Value.TheVariants as values

@@ -1,3 +1,4 @@
+-- The hash of a key.
 use Rattle.std.specs.Prelude.{ℕ, ◌+◌, ◌*◌, ◌%◌, ◌^◌, List, fold}
 
 -- h = (h × 31 + byte) mod 2^32 over the bytes of a key, from 0

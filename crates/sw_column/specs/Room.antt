@@ -1,3 +1,4 @@
+-- The room of a text.
 use Rattle.std.specs.Prelude.{ℕ, List}
 
 -- a text, and how many bytes there is room for

@@ -1,3 +1,4 @@
+-- Rows of values.
 use Rattle.std.specs.Prelude.{ℕ, List, [], ◌∷◌, map, length, Bool, true, false, IsTrue, nat_le, pos}
 use Rattle.sw_base.specs.declared.table.Value.{Value}
 use Rattle.sw_base.specs.declared.table.Value.TheVariants as values

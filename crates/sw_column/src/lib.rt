@@ -17,6 +17,3 @@ pub use hashing::hash;
 pub use row_buf::RowBuf;
 pub use schema::Schema;
 pub use text_buf::TextBuf;
-
-#[cfg(test)]
-mod tests;

@@ -1,12 +1,12 @@
 -- What follows for cutting from a steady First.
 use Rattle.std.proofs.Common.{◌≡◌, ◌≢◌, ℕ, zero, suc, ◌+◌, ◌<◌, ◌≤◌, List, [], ◌∷◌, ◌++◌, length, take, drop, refl, sym, ap, ◌∙◌, subst, arith, append_assoc, length-append, length-drop, take-append-drop, append-nil}
 use Rattle.std.specs.List.{concat}
-use Rattle.std.proofs.Math.Seq.{take-append_seam, drop-append_seam, take-add}
-use Rattle.std.proofs.lemmas.List.{length-take-le, drop-append-le, take-append-le, drop-drop}
+use Rattle.std.proofs.Math.Seq.{take-append_seam, drop-append_seam}
+use Rattle.std.proofs.lemmas.List.{length-take-le}
 use Rattle.std.proofs.lemmas.List.Folds.{concat-append}
 use Rattle.sw_cut.specs.declared.First.{First}
 use Rattle.sw_cut.specs.declared.First.TheVariants.{Packet, More, TooLong, BadLength}
-use Rattle.sw_cut.specs.Cut.{EachIsFirst, IsCut, IsSteady, Parts, parts_by, parts_within, parts_of, HasTaken}
+use Rattle.sw_cut.specs.Cut.{EachIsFirst, IsCut, IsSteady, Parts, parts_by, parts_within, parts_of, HasGiven}
 
 -- a packet that comes first stays with more bytes
 pub steady_packet : (first : List ℕ → First) → IsSteady first → (bytes later : List ℕ) (n : ℕ) → first bytes ≡ Packet n → first (bytes ++ later) ≡ Packet n
@@ -120,41 +120,41 @@ parts_of-append first ok bytes later =
     parts_of-unique first ok (bytes ++ later) _ _ (IsCut-append first ok bytes later _ _ _ _ (IsCut-parts_of first ok bytes) (IsCut-parts_of first ok ((parts_of first bytes).rest ++ later)))
 
 -- nothing was cut off yet
-pub HasTaken-none : (first : List ℕ → First) (bytes : List ℕ) → HasTaken first bytes 0 0
-HasTaken-none first bytes = record { packets = []; joined = refl; each = tt; count = refl }
+pub HasGiven-none : (first : List ℕ → First) (bytes : List ℕ) → HasGiven first bytes bytes 0
+HasGiven-none first bytes = record { packets = []; joined = refl; each = tt; count = refl }
 
 -- more bytes
-pub HasTaken-later : (first : List ℕ → First) → IsSteady first → (bytes later : List ℕ) (at given : ℕ) → at ≤ length bytes → HasTaken first bytes at given → HasTaken first (bytes ++ later) at given
-HasTaken-later first ok bytes later at given within taken =
+pub HasGiven-later : (first : List ℕ → First) → IsSteady first → (bytes rest later : List ℕ) (given : ℕ) → HasGiven first bytes rest given → HasGiven first (bytes ++ later) (rest ++ later) given
+HasGiven-later first ok bytes rest later given has =
     record {
-      packets = taken.packets;
-      joined = take-append-le at bytes later within ∙ taken.joined;
-      each = subst (λ (xs : List ℕ). EachIsFirst first taken.packets xs) (sym (drop-append-le at bytes later within)) (EachIsFirst-later first ok taken.packets (drop at bytes) later taken.each);
-      count = taken.count;
+      packets = has.packets;
+      joined = ap (λ xs. xs ++ later) has.joined ∙ append_assoc (concat has.packets) rest later;
+      each = EachIsFirst-later first ok has.packets rest later has.each;
+      count = has.count;
     }
 
 -- one packet more
-pub HasTaken-more : (first : List ℕ → First) → IsSteady first → (bytes : List ℕ) (at given n : ℕ) → HasTaken first bytes at given → first (drop at bytes) ≡ Packet n → HasTaken first bytes (at + n) (given + 1)
-HasTaken-more first ok bytes at given n taken is =
-    let packet : List ℕ = take n (drop at bytes) in
-    let there : n ≤ length (drop at bytes) = (ok.within (drop at bytes) n is).1 in
-    let ahead : drop at bytes ≡ concat (packet ∷ []) ++ drop (at + n) bytes = sym (take-append-drop n (drop at bytes)) ∙ ap (λ xs. packet ++ xs) (drop-drop n at bytes) ∙ ap (λ xs. xs ++ drop (at + n) bytes) (sym (append-nil packet)) in
+pub HasGiven-more : (first : List ℕ → First) → IsSteady first → (bytes rest : List ℕ) (given n : ℕ) → HasGiven first bytes rest given → first rest ≡ Packet n → HasGiven first bytes (drop n rest) (given + 1)
+HasGiven-more first ok bytes rest given n has is =
+    let packet : List ℕ = take n rest in
+    let there : n ≤ length rest = (ok.within rest n is).1 in
+    let ahead : rest ≡ concat (packet ∷ []) ++ drop n rest = sym (take-append-drop n rest) ∙ ap (λ xs. xs ++ drop n rest) (sym (append-nil packet)) in
     record {
-      packets = taken.packets ++ packet ∷ [];
-      joined = take-add at n bytes ∙ ap (λ xs. xs ++ packet) taken.joined ∙ ap (λ xs. concat taken.packets ++ xs) (sym (append-nil packet)) ∙ sym (concat-append taken.packets (packet ∷ []));
-      each = EachIsFirst-append first taken.packets (packet ∷ []) (drop (at + n) bytes) (subst (λ (xs : List ℕ). EachIsFirst first taken.packets xs) ahead taken.each) (ap first (sym ahead) ∙ is ∙ ap Packet (sym (length-take-le n (drop at bytes) there)), tt);
-      count = length-append taken.packets (packet ∷ []) ∙ ap (λ k. k + 1) taken.count;
+      packets = has.packets ++ packet ∷ [];
+      joined = has.joined ∙ ap (λ xs. concat has.packets ++ xs) ahead ∙ sym (concat-append_rest has.packets (packet ∷ []) (drop n rest));
+      each = EachIsFirst-append first has.packets (packet ∷ []) (drop n rest) (subst (λ (xs : List ℕ). EachIsFirst first has.packets xs) ahead has.each) (ap first (sym ahead) ∙ is ∙ ap Packet (sym (length-take-le n rest there)), tt);
+      count = length-append has.packets (packet ∷ []) ∙ ap (λ k. k + 1) has.count;
     }
 
 -- behind what was cut off the parts go on
-pub IsCut-taken : (first : List ℕ → First) → IsSteady first → (bytes : List ℕ) (at given : ℕ) (taken : HasTaken first bytes at given) → IsCut first bytes (taken.packets ++ (parts_of first (drop at bytes)).packets) (parts_of first (drop at bytes)).rest
-IsCut-taken first ok bytes at given taken =
-    let later = IsCut-parts_of first ok (drop at bytes) in
+pub IsCut-given : (first : List ℕ → First) → IsSteady first → (bytes rest : List ℕ) (given : ℕ) (has : HasGiven first bytes rest given) → IsCut first bytes (has.packets ++ (parts_of first rest).packets) (parts_of first rest).rest
+IsCut-given first ok bytes rest given has =
+    let later = IsCut-parts_of first ok rest in
     record {
-      joined = sym (take-append-drop at bytes) ∙ ap (λ xs. xs ++ drop at bytes) taken.joined ∙ ap (λ xs. concat taken.packets ++ xs) later.joined ∙ sym (concat-append_rest taken.packets _ _);
-      each = EachIsFirst-append first taken.packets _ _ (subst (λ (xs : List ℕ). EachIsFirst first taken.packets xs) later.joined taken.each) later.each;
+      joined = has.joined ∙ ap (λ xs. concat has.packets ++ xs) later.joined ∙ sym (concat-append_rest has.packets _ _);
+      each = EachIsFirst-append first has.packets _ _ (subst (λ (xs : List ℕ). EachIsFirst first has.packets xs) later.joined has.each) later.each;
       ended = later.ended;
     }
 
-pub parts_of-taken : (first : List ℕ → First) → IsSteady first → (bytes : List ℕ) (at given : ℕ) (taken : HasTaken first bytes at given) → parts_of first bytes ≡ record { packets = taken.packets ++ (parts_of first (drop at bytes)).packets; rest = (parts_of first (drop at bytes)).rest }
-parts_of-taken first ok bytes at given taken = parts_of-unique first ok bytes _ _ (IsCut-taken first ok bytes at given taken)
+pub parts_of-given : (first : List ℕ → First) → IsSteady first → (bytes rest : List ℕ) (given : ℕ) (has : HasGiven first bytes rest given) → parts_of first bytes ≡ record { packets = has.packets ++ (parts_of first rest).packets; rest = (parts_of first rest).rest }
+parts_of-given first ok bytes rest given has = parts_of-unique first ok bytes _ _ (IsCut-given first ok bytes rest given has)

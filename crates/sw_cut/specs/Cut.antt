@@ -18,11 +18,11 @@ pub record IsCut (first : List ℕ → First) (bytes : List ℕ) (packets : List
   -- no packet comes first in the rest
   pub ended : (n : ℕ) → first rest ≢ Packet n
 
--- the bytes up to a place are packets that were cut off, each of which came first at its place
-pub record HasTaken (first : List ℕ → First) (bytes : List ℕ) (at given : ℕ) : Type 0 where
+-- so many packets were cut off the front of the bytes, each of which came first at its place, and this is the rest
+pub record HasGiven (first : List ℕ → First) (bytes rest : List ℕ) (given : ℕ) : Type 0 where
   pub packets : List (List ℕ)
-  pub joined : take at bytes ≡ concat packets
-  pub each : EachIsFirst first packets (drop at bytes)
+  pub joined : bytes ≡ concat packets ++ rest
+  pub each : EachIsFirst first packets rest
   pub count : length packets ≡ given
 
 -- a packet that comes first isn't empty and is there, and bytes that follow change only the answer More

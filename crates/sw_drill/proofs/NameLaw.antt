@@ -12,7 +12,7 @@ use Rattle.std.specs.BTreeSet.{insert_key}
 use Rattle.std.proofs.lemmas.Map.Text.{is_eq-slice_cmp}
 use Rattle.sw_settings.specs.declared.pair.SetValue.{SetValue}
 use Rattle.sw_settings.specs.declared.pair.Pair.{Pair}
-use Rattle.sw_settings.specs.Values.{given}
+use Rattle.sw_settings.specs.Given.{given}
 use Rattle.sw_drill.specs.Pairs.{has_name, with_pair, AreNames}
 
 -- ---- the names of pairs

@@ -1,3 +1,4 @@
+-- A drill as far as it was read, and one line more.
 use Rattle.std.specs.Prelude.{ℕ, ◌+◌, List, [], ◌∷◌, ◌++◌, codes, Bool, true, false, Option, Some, None, Result, Ok, Err, if◌then◌else◌}
 use Rattle.std.specs.Str.{bytes_eq}
 use Rattle.sw_text.specs.Then.{◌>>=◌}
@@ -5,8 +6,8 @@ use Rattle.sw_text.specs.Numbers.{number_within}
 use Rattle.sw_text.specs.Parts.{cut_at, part_at, lines_of}
 use Rattle.sw_text.specs.Hex.{bytes_of}
 use Rattle.sw_text.specs.Addresses.{ip_of}
-use Rattle.sw_record.specs.declared.step.Step.{Step}
-use Rattle.sw_record.specs.declared.step.Step.TheVariants.{Arrive, Piece, End, Turn}
+use Rattle.sw_thin_record.specs.declared.step.Step.{Step}
+use Rattle.sw_thin_record.specs.declared.step.Step.TheVariants.{Arrive, Piece, End, Turn}
 use Rattle.sw_drill.specs.Fields.{actor_of, is_setting_name, value_of}
 use Rattle.sw_drill.specs.Pairs.{with_pair}
 use Rattle.sw_drill.specs.declared.schedule.Line.{Line}

@@ -1,3 +1,4 @@
+-- The fields of a line.
 use Rattle.std.specs.Prelude.{ℕ, List, [], ◌∷◌, codes, length, Bool, true, false, ◌&&◌, ◌||◌, Option, Some, None, nat_eq, nat_le, if◌then◌else◌, pos}
 use Rattle.std.specs.List.{list_all}
 use Rattle.std.specs.Str.{bytes_eq}
@@ -7,8 +8,8 @@ use Rattle.sw_text.specs.Numbers.{number_of}
 use Rattle.sw_text.specs.Parts.{part_at}
 use Rattle.sw_settings.specs.declared.pair.SetValue.{SetValue}
 use Rattle.sw_settings.specs.declared.pair.SetValue.TheVariants as values
-use Rattle.sw_record.specs.declared.step.ActorId.{ActorId}
-use Rattle.sw_record.specs.declared.step.ActorId.TheVariants.{Door, Reactor, Worker}
+use Rattle.sw_thin_record.specs.declared.step.ActorId.{ActorId}
+use Rattle.sw_thin_record.specs.declared.step.ActorId.TheVariants.{Door, Reactor, Worker}
 
 -- the actor of this name
 abbrev pub actor_of : List ℕ → Option ActorId

@@ -1,3 +1,4 @@
+-- What a whole text is by what reading it answers.
 use Rattle.std.specs.Prelude.{◌≡◌, ℕ, ◌+◌, List, [], ◌∷◌, ◌++◌, length, Some, None, Result, Ok, Err}
 use Rattle.sw_text.specs.Parts.{lines_of}
 use Rattle.sw_drill.specs.Draft.{line_read, fresh}

@@ -5,7 +5,7 @@ use Rattle.std.specs.List.{list_any}
 use Rattle.std.specs.Str.{bytes_eq}
 use Rattle.sw_settings.specs.declared.pair.SetValue.{SetValue}
 use Rattle.sw_settings.specs.declared.pair.Pair.{Pair}
-use Rattle.sw_settings.specs.Values.{given}
+use Rattle.sw_settings.specs.Given.{given}
 
 -- the pairs have this name
 abbrev pub has_name : List Pair → List ℕ → Bool

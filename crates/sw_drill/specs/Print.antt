@@ -1,23 +1,24 @@
+-- The text of a record.
 use Rattle.std.specs.Prelude.{ℕ, ◌+◌, List, [], ◌∷◌, ◌++◌, codes, Option, Some, None}
 use Rattle.std.specs.Fmt.{decimal}
 use Rattle.std.specs.List.{flat_map}
 use Rattle.sw_text.specs.Hex.{bytes_text}
 use Rattle.sw_text.specs.Addresses.{ip_text}
-use Rattle.sw_data.specs.declared.ended.Cause.{Cause}
-use Rattle.sw_data.specs.declared.ended.Cause.TheVariants.{PeerEnd, TooLong, BadLength}
-use Rattle.sw_data.specs.declared.ended.Ended.{Ended}
-use Rattle.sw_data.specs.declared.events.Event.{Event}
-use Rattle.sw_data.specs.declared.events.Event.TheVariants.{Connect, Packet, Closed}
-use Rattle.sw_data.specs.declared.events.Answer.{Answer}
-use Rattle.sw_data.specs.declared.events.Answer.TheVariants.{Sent, NoSession}
-use Rattle.sw_data.specs.declared.events.Given.{Given}
-use Rattle.sw_data.specs.declared.events.Given.TheVariants as givens
-use Rattle.sw_data.specs.declared.events.Act.{Act}
-use Rattle.sw_data.specs.declared.events.Act.TheVariants.{Send, Done}
-use Rattle.sw_record.specs.declared.record.LinkState.{LinkState}
-use Rattle.sw_record.specs.declared.record.LinkState.TheVariants.{Waiting, Live, Over}
-use Rattle.sw_record.specs.declared.record.LinkRecord.{LinkRecord}
-use Rattle.sw_record.specs.declared.record.Record.{Record}
+use Rattle.sw_thin_data.specs.declared.ended.Cause.{Cause}
+use Rattle.sw_thin_data.specs.declared.ended.Cause.TheVariants.{PeerEnd, TooLong, BadLength}
+use Rattle.sw_thin_data.specs.declared.ended.Ended.{Ended}
+use Rattle.sw_thin_data.specs.declared.events.Event.{Event}
+use Rattle.sw_thin_data.specs.declared.events.Event.TheVariants.{Connect, Packet, Closed}
+use Rattle.sw_thin_data.specs.declared.events.Answer.{Answer}
+use Rattle.sw_thin_data.specs.declared.events.Answer.TheVariants.{Sent, NoSession}
+use Rattle.sw_thin_data.specs.declared.events.Given.{Given}
+use Rattle.sw_thin_data.specs.declared.events.Given.TheVariants as givens
+use Rattle.sw_thin_data.specs.declared.events.Act.{Act}
+use Rattle.sw_thin_data.specs.declared.events.Act.TheVariants.{Send, Done}
+use Rattle.sw_thin_record.specs.declared.record.LinkState.{LinkState}
+use Rattle.sw_thin_record.specs.declared.record.LinkState.TheVariants.{Waiting, Live, Over}
+use Rattle.sw_thin_record.specs.declared.record.LinkRecord.{LinkRecord}
+use Rattle.sw_thin_record.specs.declared.record.Record.{Record}
 
 -- the texts of a list's items in order, each by its number
 unfoldable pub each_text : {A : Type 0} → (ℕ → A → List ℕ) → ℕ → List A → List ℕ

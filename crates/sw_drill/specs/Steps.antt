@@ -1,8 +1,9 @@
+-- The steps that lines stand for.
 use Rattle.std.specs.Prelude.{ℕ, zero, suc, List, [], ◌∷◌, ◌++◌, replicate}
 use Rattle.std.specs.List.{flat_map}
-use Rattle.sw_record.specs.declared.step.Step.{Step}
-use Rattle.sw_record.specs.declared.step.Step.TheVariants.{Turn}
-use Rattle.sw_record.specs.declared.step.ActorId.TheVariants.{Door, Reactor, Worker}
+use Rattle.sw_thin_record.specs.declared.step.Step.{Step}
+use Rattle.sw_thin_record.specs.declared.step.Step.TheVariants.{Turn}
+use Rattle.sw_thin_record.specs.declared.step.ActorId.TheVariants.{Door, Reactor, Worker}
 use Rattle.sw_drill.specs.declared.schedule.Line.{Line}
 use Rattle.sw_drill.specs.declared.schedule.Line.TheVariants as lines
 

@@ -9,8 +9,8 @@ use crate::pairs::Pairs;
 use crate::schedule::{Line, Lines};
 use std::alloc::Global;
 use sw_base::{Octets, OutOfMemory};
-use sw_record::Step;
 use sw_text::{bytes, cut, ip, is, number_within, part};
+use sw_thin_record::Step;
 
 /// What is known of the link's peer.
 #[derive(Clone, Copy, Debug)]

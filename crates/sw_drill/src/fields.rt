@@ -6,9 +6,9 @@ ghost use Rattle.sw_drill.specs.Fields.{actor_of, is_name_byte, is_setting_name,
 
 use std::alloc::{AllocError, Global};
 use sw_base::Octets;
-use sw_record::ActorId;
 use sw_settings::SetValue;
 use sw_text::{bytes, is, number, part};
+use sw_thin_record::ActorId;
 
 /// The actor of this name.
 pub fn actor(text: &[u8]) -> Option<ActorId>

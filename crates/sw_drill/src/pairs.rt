@@ -1,6 +1,6 @@
 //! The pairs that lines of settings give.
 
-ghost use Rattle.std.specs.Prelude.{◌≡◌, [], ◌∷◌, ◌++◌, Some, None, IfOk, if◌then◌else◌};
+ghost use Rattle.std.specs.Prelude.{◌≡◌, [], ◌∷◌, ◌++◌, Some, None, IfOk, OnErr, false, if◌then◌else◌};
 ghost use Rattle.sw_drill.specs.Pairs.{has_name, with_pair, AreNames};
 
 use std::alloc::Global;
@@ -47,9 +47,11 @@ impl Pairs {
         self.items
     }
 
-    /// One pair more at the end, and whether its name is new; where it isn't, the pairs are as before.
+    /// Adds one pair at the end, and says whether its name is new; where it isn't, and at an error, the pairs are as before.
     pub fn add(&mut self, alloc: Global, name: &[u8], value: SetValue) -> Result<bool, OutOfMemory>
-        ensures { IfOk result (λ ok. with_pair self.old name.now value ≡ (if ok then Some self.new else None)) }
+        ensures ok { IfOk result (λ ok. with_pair self.old name.now value ≡ (if ok then Some self.new else None)) }
+        ensures same { IfOk result (λ ok. ok ≡ false → self.new ≡ self.old) }
+        ensures err { OnErr result (self.new ≡ self.old) }
     {
         add(&mut self.items, &mut self.names, alloc, name, value)
     }
@@ -65,6 +67,8 @@ fn add(
     requires { AreNames names.old.keys items.old.items }
     ensures names { AreNames names.new.keys items.new.items }
     ensures ok { IfOk result (λ ok. with_pair items.old.items name.now value ≡ (if ok then Some items.new.items else None)) }
+    ensures same { IfOk result (λ ok. ok ≡ false → items.new.items ≡ items.old.items) }
+    ensures err { OnErr result (items.new.items ≡ items.old.items) }
 {
     let text = Vec::from_slice(alloc, name)?;
     let bytes = Vec::from_slice(alloc, name)?;

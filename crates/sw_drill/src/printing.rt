@@ -6,9 +6,9 @@ ghost use Rattle.sw_drill.specs.Print.{each_text, cause_text, place_text, counts
 
 use std::alloc::Global;
 use sw_base::{Octets, OutOfMemory, Session};
-use sw_data::{Act, Answer, Cause, Ended, Event, Given, Log};
-use sw_record::{LinkRecord, LinkState, Record};
 use sw_text::{put_bytes, put_ip, put_number};
+use sw_thin_data::{Act, Answer, Cause, Ended, Event, Given, Log};
+use sw_thin_record::{LinkRecord, LinkState, Record};
 
 fn put_place(out: &mut String, session: Option<Session>, fd: u32) -> Result<(), OutOfMemory>
     ensures { OnOk result (string_bytes out.new ≡ string_bytes out.old ++ place_text session fd) }

@@ -2,7 +2,7 @@
 
 use crate::pairs::Pairs;
 use sw_base::Items;
-use sw_record::{ActorId, Step};
+use sw_thin_record::{ActorId, Step};
 
 /// A line of a schedule. One line may stand for many steps.
 #[derive(Drop)]

@@ -3,25 +3,26 @@ use Rattle.std.proofs.Common.{◌≡◌, ◌≢◌, ℕ, ◌+◌, ◌<◌, ◌�
 use Rattle.std.specs.List.{concat}
 use Rattle.std.proofs.lemmas.List.{take-append-le, take_more}
 use Rattle.std.proofs.lemmas.List.Folds.{concat-append}
+use Rattle.std.proofs.Math.Seq.{drop-append_seam}
 use Rattle.std.proofs.lemmas.Option.{slice_get_within, get_or_from_slice_get}
 use Rattle.sw_cut.specs.declared.First.{First}
 use Rattle.sw_cut.specs.declared.First.TheVariants as firsts
-use Rattle.sw_cut.specs.Cut.{IsSteady, HasTaken, Parts, parts_of, fault_of}
-use Rattle.sw_cut.proofs.Cuts.{IsCut-parts_of, parts_of-unique, parts_of-append, parts_of-none, parts_of-taken}
+use Rattle.sw_cut.specs.Cut.{IsSteady, HasGiven, Parts, parts_of, fault_of}
+use Rattle.sw_cut.proofs.Cuts.{IsCut-parts_of, parts_of-unique, parts_of-append, parts_of-none, parts_of-given}
 use Rattle.sw_frame_eof.specs.Mark as marks
 use Rattle.sw_frame_len.specs.Length as lengths
 use Rattle.sw_frame_eof.proofs.Marks as mark_laws
 use Rattle.sw_frame_len.proofs.Lengths as length_laws
 use Rattle.sw_frame.specs.declared.framing.Framing.{Framing}
 use Rattle.sw_frame.specs.declared.framing.Framing.TheVariants.{Raw, Eof, Length}
-use Rattle.sw_frame.specs.declared.fed.Fed.{Fed}
+use Rattle.sw_frame.specs.declared.kept.Kept.{Kept}
 use Rattle.sw_frame.specs.declared.next.Next.{Next}
 use Rattle.sw_frame.specs.declared.next.Next.TheVariants.{Packet, More, TooLong, BadLength, OutOfMemory}
 use Rattle.sw_frame.specs.Cut.{Cut, IsFit, filled, IsCutBy, IsCutOf, cut_by, cut}
-use Rattle.sw_frame.specs.Cutting.{Cutting, cut_of, next_by, next_of, after, IsAnswer}
+use Rattle.sw_frame.specs.Cutting.{Cutting, cut_of, ahead, next_by, next_of, after, IsAnswer}
 use Rattle.sw_frame.specs.Calls.{JoinsPieces, Extends, start, feed, to_come, Call, Feed, Answer, fed_in, given_in, IsAfter, IsFault}
-use Rattle.sw_frame.specs.Fed.{fed_pieces, IsKept}
-use Rattle.sw_frame.proofs.Keeping.{filled-append, concat-pieces_of}
+use Rattle.sw_frame.specs.Kept.{seen, IsRest, IsKept, by_mark, by_field}
+use Rattle.sw_frame.proofs.Keeping.{filled-append}
 
 -- the cut is what the words say
 IsCutBy-cut_by : (first : List ℕ → First) → IsSteady first → (pieces : List (List ℕ)) → IsCutBy first pieces (cut_by first (concat pieces))
@@ -89,19 +90,42 @@ cut-more (Length rule) fit pieces later =
     rw (concat-append pieces later) (cut_by-later (lengths.first_in rule) (length_laws.IsSteady-first_in rule) (concat pieces) (concat later))
 
 -- what was given is part of the cut
-given-taken : (first : List ℕ → First) → IsSteady first → (bytes : List ℕ) (at given : ℕ) → HasTaken first bytes at given → given ≤ length (cut_by first bytes).packets
-given-taken first ok bytes at given taken =
-    rw (parts_of-taken first ok bytes at given taken, length-append) (omega (arith, taken.count))
+given_within : (first : List ℕ → First) → IsSteady first → (bytes rest : List ℕ) (given : ℕ) → HasGiven first bytes rest given → given ≤ length (cut_by first bytes).packets
+given_within first ok bytes rest given has =
+    rw (parts_of-given first ok bytes rest given has, length-append) (omega (arith, has.count))
 
-pub given-cut : (framing : Framing) (fed : Fed) → IsKept framing fed → fed.given ≤ length (cut framing (fed_pieces fed)).packets
+pub given-cut : (framing : Framing) (kept : Kept) → IsKept framing kept → kept.given ≤ length (cut framing kept.fed.pieces).packets
 unfolding cut
-given-cut Raw fed kept =
-    let parts : length (filled (fed_pieces fed)) ≡ length (filled (take fed.passed (fed_pieces fed))) + length (filled (drop fed.passed (fed_pieces fed))) = ap (λ (ps : List (List ℕ)). length (filled ps)) (sym (take-append-drop fed.passed (fed_pieces fed))) ∙ ap length (filled-append (take fed.passed (fed_pieces fed)) (drop fed.passed (fed_pieces fed))) ∙ length-append (filled (take fed.passed (fed_pieces fed))) (filled (drop fed.passed (fed_pieces fed))) in
-    omega (arith, parts, kept.at.count)
-given-cut (Eof mark max) fed kept =
-    rw (concat-pieces_of fed.lens.items fed.bytes.items kept.whole.whole) (given-taken (marks.first_in mark max) (mark_laws.IsSteady-first_in mark max kept.fit.0) fed.bytes.items fed.at fed.given kept.at)
-given-cut (Length rule) fed kept =
-    rw (concat-pieces_of fed.lens.items fed.bytes.items kept.whole.whole) (given-taken (lengths.first_in rule) (length_laws.IsSteady-first_in rule) fed.bytes.items fed.at fed.given kept.at)
+given-cut Raw kept is = is.at.within
+given-cut (Eof mark max) kept is = given_within (marks.first_in mark max) (mark_laws.IsSteady-first_in mark max is.fit.0) _ is.at.rest kept.given is.at.given
+given-cut (Length rule) kept is = given_within (lengths.first_in rule) (length_laws.IsSteady-first_in rule) _ is.at.rest kept.given is.at.given
+
+-- what is kept of joined pieces is a part of what was fed and not given
+rest_ahead : (first : List ℕ → First) → IsSteady first → (bytes rest : List ℕ) (given : ℕ) → HasGiven first bytes rest given → length rest ≡ length (concat (drop given (cut_by first bytes).packets)) + length (cut_by first bytes).rest
+rest_ahead first ok bytes rest given has =
+    let parts = parts_of-given first ok bytes rest given has in
+    let later = IsCut-parts_of first ok rest in
+    let packets : (parts_of first bytes).packets ≡ has.packets ++ (parts_of first rest).packets = rw parts refl in
+    let behind : (parts_of first bytes).rest ≡ (parts_of first rest).rest = rw parts refl in
+    let left : drop given (parts_of first bytes).packets ≡ (parts_of first rest).packets = ap (drop given) packets ∙ ap (λ (n : ℕ). drop n (has.packets ++ (parts_of first rest).packets)) (sym has.count) ∙ drop-append_seam has.packets (parts_of first rest).packets in
+    rw (left, behind) (ap length later.joined ∙ length-append (concat (parts_of first rest).packets) (parts_of first rest).rest)
+
+rest_by : (first : List ℕ → First) → IsSteady first → (searched : Kept → List ℕ → Type 0) (kept : Kept) (rest : List ℕ) (fault : Option First) → HasGiven first (concat kept.fed.pieces) rest kept.given → IsRest first searched kept rest fault → length kept.rest ≤ length (concat (drop kept.given (cut_by first (concat kept.fed.pieces)).packets)) + length (cut_by first (concat kept.fed.pieces)).rest
+rest_by first ok searched kept rest None given is =
+    let all = rest_ahead first ok (concat kept.fed.pieces) rest kept.given given in
+    let same : length kept.rest ≡ length rest = ap length is.0 in
+    omega (arith, all, same)
+rest_by first ok searched kept rest (Some fault) given is =
+    let none : length kept.rest ≡ 0 = ap length is.0 in
+    omega (arith, none)
+
+pub rest-ahead : (framing : Framing) (kept : Kept) → IsKept framing kept → length kept.rest ≤ ahead (seen framing kept)
+unfolding cut
+rest-ahead Raw kept is =
+    let none : length kept.rest ≡ 0 = ap length is.at.bare in
+    omega (arith, none)
+rest-ahead (Eof mark max) kept is = rest_by (marks.first_in mark max) (mark_laws.IsSteady-first_in mark max is.fit.0) (by_mark mark max) kept is.at.rest kept.fault is.at.given is.at.is
+rest-ahead (Length rule) kept is = rest_by (lengths.first_in rule) (length_laws.IsSteady-first_in rule) (by_field rule) kept is.at.rest kept.fault is.at.given is.at.is
 
 -- a piece more leaves the packets that were given
 pub take-feed : (c : Cutting) (piece : List ℕ) → IsFit c.framing → c.given ≤ length (cut_of c).packets → take c.given (cut_of (feed c piece)).packets ≡ take c.given (cut_of c).packets

@@ -1,5 +1,6 @@
 -- What a cutter is at, and what it answers next.
-use Rattle.std.specs.Prelude.{◌≡◌, ℕ, ◌+◌, List, Option, Some, None, slice_get}
+use Rattle.std.specs.Prelude.{◌≡◌, ℕ, ◌+◌, List, length, drop, Option, Some, None, slice_get}
+use Rattle.std.specs.List.{concat}
 use Rattle.sw_cut.specs.declared.First.{First}
 use Rattle.sw_cut.specs.declared.First.TheVariants as first
 use Rattle.sw_frame.specs.Cut.{Cut, cut}
@@ -16,6 +17,10 @@ pub record Cutting : Type 0 where
 -- the cut of the pieces that were fed
 abbrev pub cut_of : Cutting → Cut
 cut_of c = cut c.framing c.pieces
+
+-- how many bytes were fed and weren't given yet
+abbrev pub ahead : Cutting → ℕ
+ahead c = length (concat (drop c.given (cut_of c).packets)) + length (cut_of c).rest
 
 -- the answer where no packet is left, by the fault of the rest
 abbrev pub next_rest : Option First → Next

@@ -1,4 +1,4 @@
 pub mod Cut
 pub mod Cutting
-pub mod Fed
+pub mod Kept
 pub mod Calls

@@ -1,35 +1,36 @@
 //! A connection feeds the pieces that it reads to its cutter, and takes the packets from it.
-ghost use Rattle.std.specs.Prelude.{◌≡◌, ◌≤◌, ℕ, length, List, [], ◌∷◌, ◌++◌, OnOk, OnErr};
+ghost use Rattle.std.specs.Prelude.{◌≡◌, ◌≤◌, ℕ, ◌+◌, max, length, List, [], ◌∷◌, ◌++◌, OnOk, OnErr};
 ghost use Rattle.sw_frame.specs.Cut.{IsFit};
 
-use crate::fed::Fed;
 use crate::framing::Framing;
+use crate::kept::Kept;
 use crate::next::Next;
 use std::alloc::Global;
 use std::marker::Model;
 use sw_base::OutOfMemory;
+use sw_ring::SLACK;
 
 /// Cuts the pieces of one byte stream into packets. Contracts see the framing, the pieces that were fed, and how
 /// many packets were given.
-#[derive(Drop)]
+#[derive(Drop, Debug)]
 pub struct Cutter {
     framing: Framing,
-    fed: Fed,
+    kept: Kept,
 }
 
 impl Model for Cutter {
     ghost use Rattle.sw_frame.specs.Cutting.{Cutting};
-    ghost use Rattle.sw_frame.specs.Fed.{fed_pieces, IsKept};
+    ghost use Rattle.sw_frame.specs.Kept.{seen, IsKept};
 
     ghost Value = { Cutting };
 
-    ghost view = { λ c. record { framing = c.framing; pieces = fed_pieces c.fed; given = c.fed.given } };
+    ghost view = { λ c. seen c.framing c.kept };
 
-    ghost invariant = { λ c. IsKept c.framing c.fed };
+    ghost invariant = { λ c. IsKept c.framing c.kept };
 }
 
 impl Cutter {
-    ghost use Rattle.sw_frame.specs.Cutting.{IsAnswer, next_of, after, cut_of};
+    ghost use Rattle.sw_frame.specs.Cutting.{IsAnswer, next_of, after, cut_of, ahead};
 
     /// A cutter that was fed nothing. It takes no memory. The framing is one that can cut, as `is_fit` tests.
     pub fn new(alloc: Global, framing: Framing) -> Cutter
@@ -38,7 +39,7 @@ impl Cutter {
     {
         Cutter {
             framing,
-            fed: Fed::new(alloc),
+            kept: Kept::new(alloc),
         }
     }
 
@@ -47,8 +48,11 @@ impl Cutter {
         ensures ok { OnOk result (self.new ≡ record self.old { pieces = self.old.pieces ++ piece.now ∷ [] }) }
         ensures err { OnErr result (self.new ≡ self.old) }
     {
-        self.fed.push(piece)?;
-        Ok(())
+        match &self.framing {
+            Framing::Raw => self.kept.push_piece(piece),
+            Framing::Eof(_, _) => self.kept.push_bytes(piece),
+            Framing::Length(_) => self.kept.push_bytes(piece),
+        }
     }
 
     /// What comes next: `Packet` for the first packet of the cut that wasn't given yet, and where there is none,
@@ -59,15 +63,9 @@ impl Cutter {
         ensures cutter { self.new ≡ after self.old result }
     {
         match &self.framing {
-            Framing::Raw => self.fed.next_piece(),
-            Framing::Eof(mark, max) => {
-                let first = sw_frame_eof::first_in(mark.bytes(), *max, self.fed.rest());
-                self.fed.next_by(first)
-            }
-            Framing::Length(rule) => {
-                let first = sw_frame_len::first_in(*rule, self.fed.rest());
-                self.fed.next_by(first)
-            }
+            Framing::Raw => self.kept.next_piece(),
+            Framing::Eof(mark, max) => self.kept.next_mark(mark.bytes(), *max),
+            Framing::Length(rule) => self.kept.next_length(*rule),
         }
     }
 
@@ -76,7 +74,15 @@ impl Cutter {
         ensures given { result ≡ self.now.given }
         ensures cut { result ≤ length (cut_of self.now).packets }
     {
-        self.fed.given
+        self.kept.given
+    }
+
+    /// How many bytes of memory are in use for joined pieces: no more than the bytes that were fed and not given, twice,
+    /// or those and the slack.
+    pub fn room(&self) -> usize
+        ensures { result ≤ ahead self.now + max SLACK (ahead self.now) }
+    {
+        self.kept.rest.room()
     }
 
     /// How the pieces are cut.

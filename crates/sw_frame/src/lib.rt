@@ -2,15 +2,14 @@
 #![tactic(auto)]
 
 mod cutter;
-mod fed;
+mod fit;
 mod framing;
+mod kept;
 mod laws;
 mod next;
 
 pub use cutter::Cutter;
+pub use fit::FitFraming;
 pub use framing::Framing;
 pub use laws::{calls_give_the_cut, cut_is_exact, cut_of_joined, cut_of_more};
 pub use next::Next;
-
-#[cfg(test)]
-mod tests;

@@ -1,19 +1,14 @@
 -- Where a mark stands, and what comes first by that.
 use Rattle.std.proofs.Common.{◌≡◌, ◌≢◌, ℕ, zero, suc, ◌+◌, ◌-◌, ◌<◌, ◌≤◌, min, Bool, true, false, if◌then◌else◌, List, [], ◌∷◌, ◌++◌, length, take, drop, Option, Some, None, option_map, refl, sym, ap, ◌∙◌, subst, inl, inr, arith, append_assoc, length-append, length-drop, length-take, take-append-drop, bytes_eq}
 use Rattle.std.proofs.Math.Seq.{take-append_seam, drop-append_seam, take-add}
-use Rattle.std.proofs.lemmas.List.{length-take-le, take-append-le, drop-append-le}
+use Rattle.std.proofs.lemmas.List.{length-take-le, take-append-le, drop-append-le, take_all}
 use Rattle.std.proofs.lemmas.List.Prefix.{at_from_reads, at_reads}
 use Rattle.std.proofs.lemmas.Slice.Eq.{bytes_eq-Decides}
 use Rattle.std.proofs.lemmas.Bool.Decides.{not_from_Decides, leb_tells, nat_tests}
-use Rattle.memchr.specs.Find.{FindsNeedle, OccursAt}
+use Rattle.memchr.specs.Find.{OccursAt}
 use Rattle.sw_cut.specs.declared.First.TheVariants.{Packet, More, TooLong}
 use Rattle.sw_cut.specs.Cut.{IsSteady}
-use Rattle.sw_frame_eof.specs.Mark.{EndsWith, NoEndWithin, IsFirst, mark_at, first_by, first_in}
-
--- the mark stands at a place
-pub record StandsAt (mark bytes : List ℕ) (at : ℕ) : Type 0 where
-  pub later : List ℕ
-  pub is : drop at bytes ≡ mark ++ later
+use Rattle.sw_frame_eof.specs.Mark.{EndsWith, StandsAt, IsFirstEnd, NoEndWithin, IsFirst, mark_at, first_by, first_in}
 
 -- the first place where the mark stands, or none
 abbrev pub IsMarkAt : List ℕ → List ℕ → Option ℕ → Type 0
@@ -78,21 +73,15 @@ IsMarkAt-unique mark bytes (Some at) (Some place) one two =
     let same : at ≡ place = omega arith in
     ap Some same
 
--- what a search for the mark finds
-OccursAt-StandsAt : (mark bytes : List ℕ) (k : ℕ) → OccursAt bytes mark k → StandsAt mark bytes k
+-- the mark stands where its bytes are read
+pub OccursAt-StandsAt : (mark bytes : List ℕ) (k : ℕ) → OccursAt bytes mark k → StandsAt mark bytes k
 OccursAt-StandsAt mark bytes k occurs = record { later = drop (k + length mark) bytes; is = at_from_reads 0 bytes mark k occurs.fits occurs.reads }
 
-StandsAt-OccursAt : (mark bytes : List ℕ) (k : ℕ) → 0 < length mark → StandsAt mark bytes k → OccursAt bytes mark k
+pub StandsAt-OccursAt : (mark bytes : List ℕ) (k : ℕ) → 0 < length mark → StandsAt mark bytes k → OccursAt bytes mark k
 StandsAt-OccursAt mark bytes k some stands = record { fits = StandsAt-within mark bytes k some stands; reads = at_reads 0 bytes mark k stands.later stands.is }
 
-pub IsMarkAt-found : (mark bytes : List ℕ) (r : Option ℕ) → 0 < length mark → FindsNeedle bytes mark 0 r → IsMarkAt mark bytes r
-IsMarkAt-found mark bytes None some finds =
-    λ k stands. let w : k + length mark ≤ length bytes = StandsAt-within mark bytes k some stands in finds k (omega arith) (omega arith) (StandsAt-OccursAt mark bytes k some stands)
-IsMarkAt-found mark bytes (Some at) some finds =
-    (OccursAt-StandsAt mark bytes at finds.1, λ k lt stands. finds.0.before k (omega arith) lt (StandsAt-OccursAt mark bytes k some stands))
-
-pub found_is : (mark bytes : List ℕ) (r : Option ℕ) → 0 < length mark → FindsNeedle bytes mark 0 r → r ≡ mark_at mark bytes
-found_is mark bytes r some finds = IsMarkAt-unique mark bytes r _ (IsMarkAt-found mark bytes r some finds) (IsMarkAt-mark_at mark bytes some)
+pub mark_at-is : (mark bytes : List ℕ) (r : Option ℕ) → 0 < length mark → IsMarkAt mark bytes r → r ≡ mark_at mark bytes
+mark_at-is mark bytes r some is = IsMarkAt-unique mark bytes r _ is (IsMarkAt-mark_at mark bytes some)
 
 -- a prefix that ends with the mark, and a place where the mark stands
 pub StandsAt-ends : (mark bytes : List ℕ) (n : ℕ) → n ≤ length bytes → EndsWith mark (take n bytes) → (at : ℕ) × (at + length mark ≡ n) × StandsAt mark bytes at
@@ -106,6 +95,28 @@ StandsAt-ends mark bytes n within ends =
 pub EndsWith-stands : (mark bytes : List ℕ) (at : ℕ) → StandsAt mark bytes at → EndsWith mark (take (at + length mark) bytes)
 EndsWith-stands mark bytes at stands =
     (take at bytes, take-add at (length mark) bytes ∙ ap (λ xs. take at bytes ++ xs) (ap (take (length mark)) stands.is ∙ take-append_seam mark stands.later))
+
+-- the end of the first mark, if there is one
+pub IsFirstEnd-by : (mark bytes : List ℕ) (r : Option ℕ) → 0 < length mark → IsMarkAt mark bytes r → IsFirstEnd mark bytes (option_map (λ at. at + length mark) r)
+IsFirstEnd-by mark bytes None some is =
+    λ n ends. elim (leb_tells n (length bytes)) [
+      | inl w ↦ let found = StandsAt-ends mark bytes n w.1 ends in is found.0 found.2
+      | inr w ↦
+          let all : take n bytes ≡ take (length bytes) bytes = take_all n bytes (omega (arith, w.1)) ∙ sym (take_all (length bytes) bytes (omega arith)) in
+          let found = StandsAt-ends mark bytes (length bytes) (omega arith) (subst (λ (xs : List ℕ). EndsWith mark xs) all ends) in
+          is found.0 found.2
+    ]
+IsFirstEnd-by mark bytes (Some at) some is =
+    let n : ℕ = at + length mark in
+    let within : n ≤ length bytes = StandsAt-within mark bytes at some is.0 in
+    record {
+      within = within;
+      ends = EndsWith-stands mark bytes at is.0;
+      least = λ k lt ends.
+          let found = StandsAt-ends mark bytes k (omega arith) ends in
+          let before : found.0 < at = omega (arith, found.1) in
+          is.1 found.0 before found.2;
+    }
 
 -- a prefix within the first max bytes is a prefix of them
 pub take-take_le : (n max : ℕ) (bytes : List ℕ) → n ≤ max → n ≤ length bytes → take n (take max bytes) ≡ take n bytes
@@ -148,21 +159,27 @@ pub IsFirst-first_in : (mark : List ℕ) (max : ℕ) (bytes : List ℕ) → 0 < 
 unfolding first_in
 IsFirst-first_in mark max bytes some = IsFirst-by mark max bytes _ some (IsMarkAt-mark_at mark (take max bytes) some)
 
+-- more bytes at the end leave a mark where it is, and bring none to a place that had room for it
+pub StandsAt-later : (mark bytes later : List ℕ) (at : ℕ) → 0 < length mark → StandsAt mark bytes at → StandsAt mark (bytes ++ later) at
+StandsAt-later mark bytes later at some stands =
+    let within : at + length mark ≤ length bytes = StandsAt-within mark bytes at some stands in
+    record { later = stands.later ++ later; is = drop-append-le at bytes later (omega arith) ∙ ap (λ xs. xs ++ later) stands.is ∙ append_assoc mark stands.later later }
+
+pub StandsAt-earlier : (mark bytes later : List ℕ) (at : ℕ) → at + length mark ≤ length bytes → StandsAt mark (bytes ++ later) at → StandsAt mark bytes at
+StandsAt-earlier mark bytes later at room stands =
+    let ends = subst (λ (xs : List ℕ). EndsWith mark xs) (take-append-le (at + length mark) bytes later room) (EndsWith-stands mark (bytes ++ later) at stands) in
+    let found = StandsAt-ends mark bytes (at + length mark) room ends in
+    let same : found.0 ≡ at = omega (arith, found.1) in
+    subst (λ (j : ℕ). StandsAt mark bytes j) same found.2
+
 -- a mark that was found stays the first one
 pub IsMarkAt-later : (mark bytes later : List ℕ) (at : ℕ) → 0 < length mark → IsMarkAt mark bytes (Some at) → IsMarkAt mark (bytes ++ later) (Some at)
 IsMarkAt-later mark bytes later at some is =
-    let within : at + length mark ≤ length bytes = StandsAt-within mark bytes at some is.0 in (
-      record { later = is.0.later ++ later; is = drop-append-le at bytes later (omega arith) ∙ ap (λ xs. xs ++ later) is.0.is ∙ append_assoc mark is.0.later later },
-      λ k lt stands.
-          let low : k + length mark ≤ length bytes = omega arith in
-          let ends = subst (λ (xs : List ℕ). EndsWith mark xs) (take-append-le (k + length mark) bytes later low) (EndsWith-stands mark (bytes ++ later) k stands) in
-          let found = StandsAt-ends mark bytes (k + length mark) low ends in
-          let same : found.0 ≡ k = omega (arith, found.1) in
-          is.1 k lt (subst (λ (j : ℕ). StandsAt mark bytes j) same found.2),
-    )
+    let within : at + length mark ≤ length bytes = StandsAt-within mark bytes at some is.0 in
+    (StandsAt-later mark bytes later at some is.0, λ k lt stands. is.1 k lt (StandsAt-earlier mark bytes later k (omega arith) stands))
 
 -- the first max bytes of more bytes
-take-later : (max : ℕ) (bytes later : List ℕ) → (xs : List ℕ) × (take max (bytes ++ later) ≡ take max bytes ++ xs)
+pub take-later : (max : ℕ) (bytes later : List ℕ) → (xs : List ℕ) × (take max (bytes ++ later) ≡ take max bytes ++ xs)
 take-later zero bytes later = ([], refl)
 take-later (suc max) [] later = (take (suc max) later, refl)
 take-later (suc max) (b ∷ bs) later =
@@ -205,8 +222,7 @@ IsSteady-first_in mark max some =
       steady = λ bytes later known. steady_by mark max bytes later _ some refl known;
     }
 
--- what the search answers, as what comes first
-pub first_in-found : (mark : List ℕ) (max : ℕ) (bytes within : List ℕ) (r : Option ℕ) → 0 < length mark → within ≡ take max bytes → FindsNeedle within mark 0 r → first_by mark max bytes r ≡ first_in mark max bytes
+-- what the first place of the mark in the first max bytes tells
+pub first_in-place : (mark : List ℕ) (max : ℕ) (bytes window : List ℕ) (r : Option ℕ) → window ≡ take max bytes → r ≡ mark_at mark window → first_by mark max bytes r ≡ first_in mark max bytes
 unfolding first_in
-first_in-found mark max bytes within r some is finds =
-    ap (first_by mark max bytes) (found_is mark within r some finds ∙ ap (mark_at mark) is)
+first_in-place mark max bytes window r is place = ap (first_by mark max bytes) (place ∙ ap (mark_at mark) is)

@@ -1,5 +1,5 @@
 -- What comes first in bytes that a mark cuts into packets, of which none is longer than `max` bytes.
-use Rattle.std.specs.Prelude.{◌≡◌, ℕ, suc, ◌+◌, ◌<◌, ◌≤◌, nat_le, if◌then◌else◌, List, [], ◌∷◌, ◌++◌, length, take, Option, Some, None, option_map}
+use Rattle.std.specs.Prelude.{◌≡◌, ℕ, suc, ◌+◌, ◌<◌, ◌≤◌, nat_le, if◌then◌else◌, List, [], ◌∷◌, ◌++◌, length, take, drop, Option, Some, None, option_map}
 use Rattle.std.specs.Str.{bytes_eq}
 use Rattle.sw_cut.specs.declared.First.{First}
 use Rattle.sw_cut.specs.declared.First.TheVariants.{Packet, More, TooLong, BadLength}
@@ -13,6 +13,16 @@ pub record IsLeastEnd (mark bytes : List ℕ) (n : ℕ) : Type 0 where
   pub within : n ≤ length bytes
   pub ends : EndsWith mark (take n bytes)
   pub least : (k : ℕ) → k < n → ¬ EndsWith mark (take k bytes)
+
+-- the mark stands at a place of the bytes
+pub record StandsAt (mark bytes : List ℕ) (at : ℕ) : Type 0 where
+  pub later : List ℕ
+  pub is : drop at bytes ≡ mark ++ later
+
+-- the least length of a prefix that ends with the mark, or none where no prefix does
+abbrev pub IsFirstEnd : List ℕ → List ℕ → Option ℕ → Type 0
+IsFirstEnd mark bytes (Some n) = IsLeastEnd mark bytes n
+IsFirstEnd mark bytes None = (n : ℕ) → ¬ EndsWith mark (take n bytes)
 
 -- no such n is at most max
 abbrev pub NoEndWithin : List ℕ → ℕ → List ℕ → Type 0

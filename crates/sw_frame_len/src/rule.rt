@@ -1,3 +1,5 @@
+//! What a length field tells, and where it stands.
+
 /// How a packet's length stands in its bytes.
 #[derive(Clone, Copy, Debug, PartialEq, Eq)]
 pub struct LengthRule {

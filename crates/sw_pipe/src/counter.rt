@@ -18,14 +18,15 @@ pub struct Counter {
     table: Table<(), Tally, u32, Counts, Global>,
     senders: u32,
     ghost some: { 1 ≤ senders },
+    ghost few: { senders ≤ 4294967295 },
     ghost key: { table.shared.key ≡ senders },
     ghost words: { table.shared.table_id.words ≡ 16 * senders },
 }
 
 impl Counter {
-    ghost use Rattle.std.specs.Prelude.{◌≡◌, ℕ, ◌+◌, ◌-◌, ◌*◌, ◌≤◌, ◌<◌, true, IfOk};
+    ghost use Rattle.std.specs.Prelude.{◌≡◌, ℕ, ◌+◌, ◌-◌, ◌*◌, ◌≤◌, ◌<◌, true, false, IfOk};
     ghost use Rattle.sw_pipe.specs.Counters.{counter_id, counter_senders};
-    ghost use Rattle.sw_pipe.specs.Tallies.{tally, tally_at, joined, word_of, IsShareOf};
+    ghost use Rattle.sw_pipe.specs.Tallies.{tally, tally_at, joined, word_of, most, IsShareOf};
 
     /// All words at 0, with a share that has all parts.
     pub fn new(alloc: Global, senders: u32) -> Result<(Counter, Share), OutOfMemory>
@@ -55,6 +56,7 @@ impl Counter {
         requires number { number < counter_senders self.now }
         requires share { IsShareOf (counter_id self.now) share.old }
         requires parts { 0 < (tally_at share.old).parts }
+        requires room { (tally_at share.old).count < most * (tally_at share.old).parts }
         ensures share { IsShareOf (counter_id self.now) share.new }
         ensures added { tally_at share.new ≡ tally (tally_at share.old).parts ((tally_at share.old).count + 1) (tally_at share.old).at (tally_at share.old).seen }
     {
@@ -67,7 +69,9 @@ impl Counter {
         requires share { IsShareOf (counter_id self.now) share.old }
         ensures share { IsShareOf (counter_id self.now) share.new }
         ensures same { ((tally_at share.new).parts ≡ (tally_at share.old).parts) × ((tally_at share.new).count ≡ (tally_at share.old).count) }
+        ensures all { (tally_at share.new).at ≡ counter_senders self.now }
         ensures seen { result ≡ true → many ≤ (tally_at share.new).seen }
+        ensures unseen { result ≡ false → (tally_at share.new).seen < many }
     {
         self.table.shared.load::<Starts>(share, 0);
         let mut sum = 0u64;

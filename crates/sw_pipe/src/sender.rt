@@ -12,7 +12,7 @@ use crossbeam_queue::Pass;
 use std::marker::Model;
 use std::sync::{Arc, Wait};
 
-/// The pipe was full at a step of the push. This message was not pushed.
+/// The senders had counted as many messages as the pipe has room for. This message was not pushed.
 #[derive(Drop)]
 pub struct Full<M>(pub M);
 
@@ -43,8 +43,8 @@ impl<M> Model for Sender<M> {
 }
 
 impl<M: Drop> Sender<M> {
-    /// Pushes a message. It comes back by `Full` only where the pipe was full at a step of this call,
-    /// and where the senders have counted as many messages as the pipe has room for.
+    /// Pushes a message. It comes back by `Full` only where the senders have counted as many messages as the pipe has room
+    /// for. This body answers so only where a step of the call found the queue full, too; no clause says that.
     pub fn push<R: Wait>(&mut self, rt: &R, message: M) -> Result<(), Full<M>>
         ensures { MatchResult result
             (λ _. self.new ≡ record self.old { pushed = self.old.pushed ++ (self.old.learnt, message) ∷ [] })

@@ -1,5 +1,6 @@
 //! What all ends of a pipe share.
 ghost use Rattle.std.specs.Prelude.{◌≡◌};
+ghost use Rattle.crossbeam_queue.specs.Passes.{ruled_capacity};
 ghost use Rattle.sw_pipe.specs.Counters.{counter_senders};
 
 use crate::counter::Counter;
@@ -18,4 +19,5 @@ pub struct Shared<M> {
     pub capacity: u32,
     pub senders: u32,
     pub ghost all: { counter_senders counter ≡ senders },
+    pub ghost room: { ruled_capacity line ≡ capacity },
 }

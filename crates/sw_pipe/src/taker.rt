@@ -37,8 +37,7 @@ impl<M> Model for Taker<M> {
 }
 
 impl<M: Drop> Taker<M> {
-    /// Takes the next message. `None` comes only where the queue was empty at a step of this call:
-    /// then all that the learnt counts tell of was taken.
+    /// Takes the next message. `None` comes only where all that the learnt counts tell of was taken.
     pub fn take<R: Wait>(&mut self, rt: &R) -> Option<M>
         ensures { MatchOption result
             ((self.new ≡ self.old) × AllTaken self.old.counts self.old.taken)

@@ -1,5 +1,6 @@
 //! A message that holds boxes, bytes, and a token that is not `Clone`.
 ghost use Rattle.std.specs.Prelude.{◌≡◌, ◌%◌, IfSome};
+ghost use Rattle.sw_pipe_uses.specs.Numbers.{TookNumber};
 
 use std::sync::Wait;
 use sw_pipe::Taker;
@@ -26,9 +27,10 @@ pub enum Message {
     Number(Even),
 }
 
-/// Takes a message, and answers its number if it is one. That is even, since its type says so.
+/// Takes a message, if there is one, and answers its number if it is one. That is even, since its type says so.
 pub fn take_number<R: Wait>(rt: &R, taker: &mut Taker<Message>) -> Option<u64>
-    ensures { IfSome result (λ n. n % 2 ≡ 0) }
+    ensures even { IfSome result (λ n. n % 2 ≡ 0) }
+    ensures took { TookNumber taker.old taker.new result }
 {
     match taker.take(rt)? {
         Message::Number(even) => Some(even.number),

@@ -1,3 +1,5 @@
+//! Runs of the pipe with threads.
+
 ghost use Rattle.std.specs.Prelude.{◌≡◌};
 
 use super::*;

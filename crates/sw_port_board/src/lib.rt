@@ -4,8 +4,6 @@
 #![tactic(auto)]
 
 mod board;
-#[cfg(test)]
-mod board_tests;
 mod counts;
 mod crew;
 mod plain_board;

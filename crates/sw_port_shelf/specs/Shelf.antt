@@ -1,3 +1,4 @@
+-- What the answers of a Table have to do with the columns.
 use Rattle.std.specs.Prelude.{◌≡◌, Option, Some, None, Result, Ok, Err, Bool, true, false}
 use Rattle.sw_base.specs.declared.table.CallFault.{CallFault}
 use Rattle.sw_base.specs.declared.table.CallFault.TheVariants.{Busy, Spent, BadKey, NoColumn, NotInt, BadValue, Range}

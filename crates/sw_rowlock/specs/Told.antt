@@ -6,7 +6,8 @@ use Rattle.sw_rowlock.specs.Calls.{Done, done, left_by, changes_of, counted_all,
 use Rattle.sw_rowlock.specs.Seats.{all_parts, SeatNow, done_on, row_then, pool_then}
 
 module _ {B P Q R : Type 0} (may : Contents B P → ℕ → Q → Type 0) (row_of : Q → Option ℕ) (needs : Q → Option B → Bool) (does : Q → Option B → Option P → ℕ → Done B P R) where
-  -- x is what a history leaves in the row b, which begins with all that the seat has seen. A seat with every part drew the whole history
+  -- x is what a history leaves in the row b, which begins with all that the seat has seen. A seat with every part drew the whole history; another
+  -- one learns at its next draw which history it is
   pub record RowLeft (start : Contents B P) (seat : SeatNow B P Q) (b : ℕ) (x : B) : Type 0 where
     pub so_far : List Q
     pub allowed : Each (may start) 0 so_far

@@ -155,7 +155,8 @@ impl<B: Drop, P: Drop, C: Called<B, P>> RowLocks<B, P, C> {
             .join_seat::<Joined>(&mut seat.place, place);
     }
 
-    /// Takes a row, or says as what its lock was found taken.
+    /// Takes a row, or says as what its lock was found taken. What it takes is what some history leaves there that begins with
+    /// all that the seat has seen; which one it is is known with every part, or at the next `draw`.
     pub fn try_row(&self, seat: &mut Seat<B, P, C>, row: u32) -> Result<B, u64>
         requires seat { IsSeatOf self.now seat.old }
         requires part { 0 < seat.old.parts }
@@ -184,7 +185,7 @@ impl<B: Drop, P: Drop, C: Called<B, P>> RowLocks<B, P, C> {
         Ok(value)
     }
 
-    /// Takes the pool, or says as what its lock was found taken.
+    /// Takes the pool, or says as what its lock was found taken. Of what it takes the same is known as of a row.
     pub fn try_pool(&self, seat: &mut Seat<B, P, C>) -> Result<P, u64>
         requires seat { IsSeatOf self.now seat.old }
         requires part { 0 < seat.old.parts }

@@ -1,6 +1,6 @@
 //! Calls that need the pool: each moves a number from the pool to a row, as far as the pool has it, and answers what the pool had.
-ghost use Rattle.std.specs.Prelude.{◌≡◌, ◌<◌, IfSome, length};
-ghost use Rattle.sw_rowlock_uses.specs.Ready.{IsReady, MadeAt};
+ghost use Rattle.std.specs.Prelude.{◌≡◌, ◌<◌, MatchOption, length};
+ghost use Rattle.sw_rowlock_uses.specs.Ready.{IsReady, MadeAt, NotMade};
 ghost use Rattle.sw_rowlock_uses.specs.Moves.{move_does, move_needs, move_row};
 
 use std::marker::{Brand, PhantomData};
@@ -61,7 +61,7 @@ fn move_as<N: Moving>(
     requires part { 0 < seat.old.parts }
     requires near { row < length locks.now.start.rows }
     ensures seat { IsReady locks.now seat.old.parts seat.new }
-    ensures call { IfSome result (λ r. MadeAt move_row move_needs move_does locks.now.start (row, amount) seat.old.seen seat.new.seen r.0 r.1) }
+    ensures call { MatchOption result (NotMade seat.old seat.new) (λ r. MadeAt move_row move_needs move_does locks.now.start (row, amount) seat.old.seen seat.new.seen r.0 r.1) }
 {
     let Ok(value) = locks.try_row(seat, row) else {
         return None;
@@ -86,7 +86,7 @@ fn move_as<N: Moving>(
 }
 
 /// Moves up to `amount` from the pool to a row, where both locks are free and no one draws meanwhile. Answers the call's place, and what
-/// the pool had.
+/// the pool had. `None` says that no call was made, since an exchange was refused or no place is left.
 pub fn move_some(
     locks: &RowLocks<u64, u64, Moves>,
     seat: &mut Seat<u64, u64, Moves>,
@@ -97,7 +97,7 @@ pub fn move_some(
     requires part { 0 < seat.old.parts }
     requires near { row < length locks.now.start.rows }
     ensures seat { IsReady locks.now seat.old.parts seat.new }
-    ensures call { IfSome result (λ r. MadeAt move_row move_needs move_does locks.now.start (row, amount) seat.old.seen seat.new.seen r.0 r.1) }
+    ensures call { MatchOption result (NotMade seat.old seat.new) (λ r. MadeAt move_row move_needs move_does locks.now.start (row, amount) seat.old.seen seat.new.seen r.0 r.1) }
 {
     move_as::<Brand>(locks, seat, row, amount)
 }

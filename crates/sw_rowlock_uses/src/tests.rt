@@ -1,3 +1,5 @@
+//! Runs of the row locks with threads.
+
 ghost use Rattle.std.specs.Prelude.{◌≡◌, ◌∷◌, [], IfOk, replicate};
 
 use crate::crowd::eight;

@@ -1,11 +1,11 @@
 //! Calls on rows of numbers: each writes a number into a row, and answers what was there. A row counts where it is not 0.
-ghost use Rattle.std.specs.Prelude.{◌≡◌, ◌<◌, ◌+◌, ◌%◌, ◌^◌, IfErr, IfOk, IfSome, None, Some, length, slice_get};
+ghost use Rattle.std.specs.Prelude.{◌≡◌, ◌<◌, ◌+◌, ◌%◌, ◌^◌, IfErr, IfOk, MatchOption, None, Some, length, slice_get};
 ghost use Rattle.sw_rowlock.specs.History.{DrewAll, calls};
 ghost use Rattle.sw_rowlock.specs.Calls.{left_by};
 ghost use Rattle.sw_rowlock.specs.Seats.{IsSeatOf, all_parts};
 ghost use Rattle.sw_rowlock.specs.Told.{DrewAt};
 ghost use Rattle.sw_rowlock.specs.Faults.{RefusedBy};
-ghost use Rattle.sw_rowlock_uses.specs.Ready.{IsReady, MadeAt};
+ghost use Rattle.sw_rowlock_uses.specs.Ready.{IsReady, MadeAt, NotMade};
 ghost use Rattle.sw_rowlock_uses.specs.Writes.{WriteFits, change_of, write_does, write_needs, write_row};
 
 use std::marker::{Brand, PhantomData};
@@ -85,6 +85,7 @@ fn draw_write<N: Writing>(
 }
 
 /// Adds 1 to a row, where its lock is free and no one draws meanwhile. Answers the call's place, and what the row had.
+/// `None` says that no call was made, since an exchange was refused or no place is left.
 pub fn add_one(
     locks: &RowLocks<u64, u64, Writes>,
     seat: &mut Seat<u64, u64, Writes>,
@@ -94,7 +95,7 @@ pub fn add_one(
     requires part { 0 < seat.old.parts }
     requires near { row < length locks.now.start.rows }
     ensures seat { IsReady locks.now seat.old.parts seat.new }
-    ensures call { IfSome result (λ r. MadeAt write_row write_needs write_does locks.now.start (row, (r.1 + 1) % 2 ^ 64) seat.old.seen seat.new.seen r.0 r.1) }
+    ensures call { MatchOption result (NotMade seat.old seat.new) (λ r. MadeAt write_row write_needs write_does locks.now.start (row, (r.1 + 1) % 2 ^ 64) seat.old.seen seat.new.seen r.0 r.1) }
 {
     let Ok(old) = locks.try_row(seat, row) else {
         return None;

@@ -15,7 +15,8 @@ pub struct ShortBook {
     pub passes: Vec<Pass>,
 }
 
-/// Ends a book. `ShortBook` comes exactly where not all passes that the clerk made are given. With all of them it is
+/// Ends a book. `ShortBook` comes exactly where not as many passes are given as the clerk made; a pass is a token, of
+/// which there is no second, so then one is missing. With all of them it is
 /// known that at most one bind of a session was Ok, that each uid that was found with a session is that of its Ok
 /// bind, that a release of a session with an Ok bind found the bind's uid, and that each number that was found in a
 /// slot was claimed and has that slot.

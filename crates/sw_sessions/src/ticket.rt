@@ -4,8 +4,8 @@ use std::marker::Model;
 use sw_base::Session;
 use sw_port_book::Ticketed;
 
-/// A claimed number: a seat at the words, which moves with its link. Contracts see its book and its number, which
-/// stands in its slot for as long as there is this ticket.
+/// A claimed number: a seat at the words, which moves with its link. Contracts see its book and its number. That the
+/// number stands in its slot as long as there is this ticket is the rule of the words; `apart` is what callers get of it.
 #[derive(Drop)]
 pub struct Ticket {
     pub(crate) place: Place,

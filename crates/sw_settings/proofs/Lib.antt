@@ -2,3 +2,4 @@ pub mod Steps
 pub mod Sound
 pub mod Fits
 pub mod FirstLaw
+pub mod Schemas

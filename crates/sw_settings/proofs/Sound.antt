@@ -1,5 +1,6 @@
+-- What holds of pairs without a fault.
 use Rattle.std.proofs.Common.{◌≡◌, ℕ, ◌<◌, ◌≤◌, Bool, true, false, cond, not, ◌&&◌, List, [], ◌∷◌, length, Option, Some, None, Result, Ok, Err, refl, sym, subst, true≢false}
-use Rattle.std.specs.Prelude.{IfSome, IfOk, codes, is_none, nat_le}
+use Rattle.std.specs.Prelude.{IfSome, IsSomeAnd, codes, is_none, nat_le}
 use Rattle.std.specs.Option.{option_map, option_or, option_copied}
 use Rattle.std.specs.Borrow.{Bor}
 use Rattle.std.specs.Str.{bytes_eq}
@@ -15,12 +16,13 @@ use Rattle.sw_settings.specs.declared.faults.SettingsFault.{SettingsFault}
 use Rattle.sw_settings.specs.declared.faults.SettingsFault.TheVariants.{BadType, Missing}
 use Rattle.sw_settings.specs.Keys.{rule_of}
 use Rattle.sw_settings.specs.Checks.{fails, fails_by, earlier, first_behind, first_key}
-use Rattle.sw_settings.specs.Values.{given, truth_of, text_or, text_of, IsSound}
-use Rattle.sw_settings.specs.Faults.{unknown_fault, type_fault, out_of_range, range_fault, missing_fault, conflict_fault, from_missing, from_range, from_type, fault_of}
+use Rattle.sw_settings.specs.Given.{given, truth_of, text_or, text_of, MeetsRule}
+use Rattle.sw_settings.specs.Values.{IsWithin}
+use Rattle.sw_settings.specs.Faults.{unknown_fault, type_fault, out_of_range, range_fault, missing_fault, conflict_fault, from_missing, from_range, from_type, pairs_fault}
 
 -- ---- pairs without a fault have none of any kind
 
-or_none : {A : Type 0} (a b : Option A) → option_or a b ≡ None → (a ≡ None) × (b ≡ None)
+pub or_none : {A : Type 0} (a b : Option A) → option_or a b ≡ None → (a ≡ None) × (b ≡ None)
 or_none None b e = (refl, e)
 or_none (Some x) b e = absurd cc
 
@@ -33,7 +35,7 @@ record NoFault (ps : List Pair) : Type 0 where
   pub range : range_fault ps ≡ None
   pub missing : missing_fault ps ≡ None
 
-no_fault : (ps : List Pair) → fault_of ps ≡ None → NoFault ps
+no_fault : (ps : List Pair) → pairs_fault ps ≡ None → NoFault ps
 no_fault ps e =
     let first = or_none (unknown_fault ps) (from_type ps) e in
     let second = or_none (type_fault ps) (from_range ps) first.1 in
@@ -59,19 +61,23 @@ stays check x y false [] e = cc
 stays check x y true (p ∷ ps) e = stays check (earlier x p.name) x (fails check p) ps e
 stays check x y false (p ∷ ps) e = stays check (earlier y p.name) y (fails check p) ps e
 
-passes : (check : Check) (p : Pair) (name : List ℕ) (v : SetValue) → fails check p ≡ false → p.name ≡ name → p.value ≡ v → fails_by check (rule_of name) v ≡ false
+-- the check refuses a key with this value
+abbrev refuses : Check → List ℕ → SetValue → Bool
+refuses check name v = fails_by check (rule_of name) (record { name = name; value = v })
+
+passes : (check : Check) (p : Pair) (name : List ℕ) (v : SetValue) → fails check p ≡ false → p.name ≡ name → p.value ≡ v → refuses check name v ≡ false
 unfolding fails
 passes check p name v e same is =
-    let one : fails_by check (rule_of name) p.value ≡ false = subst (λ (n : List ℕ). fails_by check (rule_of n) p.value ≡ false) same e in
-    subst (λ (w : SetValue). fails_by check (rule_of name) w ≡ false) is one
+    let one : refuses check name p.value ≡ false = subst (λ (n : List ℕ). refuses check n p.value ≡ false) same e in
+    subst (λ (w : SetValue). refuses check name w ≡ false) is one
 
 none_step : (check : Check) (p : Pair) (ps : List Pair) (name : List ℕ) (v : SetValue) (t s : Bool) → fails check p ≡ t → bytes_eq p.name name ≡ s → first_behind check (cond t (Some p.name) None) ps ≡ None → cond s (Some p.value) (given name ps) ≡ Some v
-    → (first_behind check None ps ≡ None → given name ps ≡ Some v → fails_by check (rule_of name) v ≡ false) → fails_by check (rule_of name) v ≡ false
+    → (first_behind check None ps ≡ None → given name ps ≡ Some v → refuses check name v ≡ false) → refuses check name v ≡ false
 none_step check p ps name v true s test same e g ih = absurd (stays check p.name p.name true ps e)
 none_step check p ps name v false false test same e g ih = ih e g
 none_step check p ps name v false true test same e g ih = passes check p name v test ((bytes_eq-Decides p.name name).0 same) cc
 
-none_fails : (check : Check) (ps : List Pair) (name : List ℕ) (v : SetValue) → first_key check ps ≡ None → given name ps ≡ Some v → fails_by check (rule_of name) v ≡ false
+none_fails : (check : Check) (ps : List Pair) (name : List ℕ) (v : SetValue) → first_key check ps ≡ None → given name ps ≡ Some v → refuses check name v ≡ false
 unfolding first_behind given
 none_fails check [] name v e g = absurd cc
 none_fails check (p ∷ ps) name v e g = none_step check p ps name v (fails check p) (bytes_eq p.name name) refl refl e g (none_fails check ps name v)
@@ -80,17 +86,17 @@ not_false : (b : Bool) → not b ≡ false → b ≡ true
 not_false true e = refl
 not_false false e = absurd (true≢false e)
 
-sound_by : (r : Option Rule) (v : SetValue) → fails_by checks.Kind r v ≡ false → fails_by checks.Range r v ≡ false → IsSound r v
-sound_by None v k r = tt
-sound_by (Some rule) v k r = (not_false _ k, not_false _ r)
+sound_by : (r : Option Rule) (p : Pair) → fails_by checks.Kind r p ≡ false → fails_by checks.Range r p ≡ false → MeetsRule r p.value
+sound_by None p k r = tt
+sound_by (Some rule) p k r = (not_false _ k, not_false _ r)
 
-pub sound : (ps : List Pair) → fault_of ps ≡ None → (name : List ℕ) (v : SetValue) → given name ps ≡ Some v → IsSound (rule_of name) v
+pub sound : (ps : List Pair) → pairs_fault ps ≡ None → (name : List ℕ) (v : SetValue) → given name ps ≡ Some v → MeetsRule (rule_of name) v
 sound ps e name v g =
     let free = no_fault ps e in
-    sound_by (rule_of name) v (none_fails checks.Kind ps name v (no_kind ps free.kind) g) (none_fails checks.Range ps name v (no_range ps free.range) g)
+    sound_by (rule_of name) (record { name = name; value = v }) (none_fails checks.Kind ps name v (no_kind ps free.kind) g) (none_fails checks.Range ps name v (no_range ps free.range) g)
 
 -- the value that pairs without a fault give to a key is of its kind and in its range
-pub sound_seen : (ps : List Pair) (name : List ℕ) (r : Option (Bor SetValue)) → fault_of ps ≡ None → option_copied r ≡ given name ps → IfSome r (λ v. IsSound (rule_of name) v.now)
+pub sound_seen : (ps : List Pair) (name : List ℕ) (r : Option (Bor SetValue)) → pairs_fault ps ≡ None → option_copied r ≡ given name ps → IfSome r (λ v. MeetsRule (rule_of name) v.now)
 sound_seen ps name None e is = tt
 sound_seen ps name (Some v) e is = sound ps e name v.now (sym is)
 
@@ -102,7 +108,7 @@ missing_by true (Some x) f rest a b e = cc
 missing_by false o f rest a b e = cc
 
 -- it is set where packets end at one
-pub marked : (ps : List Pair) → fault_of ps ≡ None → truth_of (codes "open_eof_split") ps ≡ true → text_of (codes "package_eof") ps ≡ None → ⊥
+marked : (ps : List Pair) → pairs_fault ps ≡ None → truth_of (codes "open_eof_split") ps ≡ true → text_of (codes "package_eof") ps ≡ None → ⊥
 unfolding missing_fault
 marked ps e split unset = missing_by (truth_of (codes "open_eof_split") ps) (text_of (codes "package_eof") ps) (Missing (codes "package_eof")) _ split unset (no_fault ps e).missing
 
@@ -118,13 +124,17 @@ within least most n true false p q e = absurd (true≢false (sym e))
 within least most n false b p q e = absurd (true≢false (sym e))
 
 -- it has 1 to 8 bytes
-pub mark_fits : (ps : List Pair) → fault_of ps ≡ None → (t : List ℕ) → text_of (codes "package_eof") ps ≡ Some t → (0 < length t) × (length t ≤ 8)
+mark_fits : (ps : List Pair) → pairs_fault ps ≡ None → (t : List ℕ) → text_of (codes "package_eof") ps ≡ Some t → IsWithin 1 8 (length t)
 unfolding text_of rule_of
 mark_fits ps e t is =
     let found : given (codes "package_eof") ps ≡ Some (values.Text t) = text_given (given (codes "package_eof") ps) t is in
     let s = sound ps e (codes "package_eof") (values.Text t) found in
     within 1 8 (length t) (nat_le 1 (length t)) (nat_le (length t) 8) refl refl s.1
 
-pub copy_fits : {E : Type 0} (ps : List Pair) → fault_of ps ≡ None → (t : List ℕ) → Some t ≡ text_of (codes "package_eof") ps → (r : Result (List ℕ) E) → IfOk r (λ o. o ≡ t) → IfOk r (λ m. (0 < length m) × (length m ≤ 8))
-copy_fits ps e t is (Ok m) same = subst (λ (bs : List ℕ). (0 < length bs) × (length bs ≤ 8)) (sym same) (mark_fits ps e t (sym is))
-copy_fits ps e t is (Err x) same = tt
+set_by : (ps : List Pair) → pairs_fault ps ≡ None → truth_of (codes "open_eof_split") ps ≡ true → (o : Option (List ℕ)) → text_of (codes "package_eof") ps ≡ o → IsSomeAnd o (λ mark. IsWithin 1 8 (length mark))
+set_by ps e split None is = absurd (marked ps e split is)
+set_by ps e split (Some t) is = mark_fits ps e t is
+
+-- where packets end at a mark, there is one, and it has 1 to 8 bytes
+pub mark_is_set : (ps : List Pair) → pairs_fault ps ≡ None → truth_of (codes "open_eof_split") ps ≡ true → IsSomeAnd (text_of (codes "package_eof") ps) (λ mark. IsWithin 1 8 (length mark))
+mark_is_set ps e split = set_by ps e split (text_of (codes "package_eof") ps) refl

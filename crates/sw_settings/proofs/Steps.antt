@@ -5,7 +5,7 @@ use Rattle.sw_settings.specs.declared.pair.SetValue.{SetValue}
 use Rattle.sw_settings.specs.declared.pair.Pair.{Pair}
 use Rattle.sw_settings.specs.declared.checks.Check.{Check}
 use Rattle.sw_settings.specs.Checks.{first_with, first_behind}
-use Rattle.sw_settings.specs.Values.{given}
+use Rattle.sw_settings.specs.Given.{given}
 
 -- ---- the value that pairs give
 

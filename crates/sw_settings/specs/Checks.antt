@@ -7,10 +7,13 @@ use Rattle.sw_settings.specs.declared.pair.SetValue.{SetValue}
 use Rattle.sw_settings.specs.declared.pair.SetValue.TheVariants as values
 use Rattle.sw_settings.specs.declared.pair.Pair.{Pair}
 use Rattle.sw_settings.specs.declared.checks.Check.{Check}
-use Rattle.sw_settings.specs.declared.checks.Check.TheVariants.{Known, Kind, Range}
+use Rattle.sw_settings.specs.declared.checks.Check.TheVariants.{Core, Known, Kind, Range}
 use Rattle.sw_settings.specs.declared.keys.Rule.{Rule}
-use Rattle.sw_settings.specs.declared.keys.Rule.TheVariants.{Truth, Number, Text, Letter}
-use Rattle.sw_settings.specs.Keys.{rule_of, letter_of}
+use Rattle.sw_settings.specs.declared.keys.Rule.TheVariants.{Truth, Number, Text, Letter, Columns}
+use Rattle.sw_settings.specs.Keys.{rule_of, letter_of, is_core_key}
+use Rattle.sw_settings.specs.Columns.{are_columns}
+
+-- ---- what a check refuses
 
 -- a number that fits 64 bits, without a sign or with one
 abbrev pub fits_word : ℤ → Bool
@@ -37,12 +40,18 @@ is_letter (values.Number n) = false
 is_letter (values.Truth b) = false
 is_letter (values.Text t) = is_some (letter_of t)
 
--- the value is of the rule's kind
+abbrev pub is_columns : SetValue → Bool
+is_columns (values.Number n) = false
+is_columns (values.Truth b) = false
+is_columns (values.Text t) = are_columns t
+
+-- the value is of the rule's kind: a letter is one of the five, and columns are in their grammar
 abbrev pub is_of_kind : Rule → SetValue → Bool
 is_of_kind Truth v = is_truth v
 is_of_kind (Number least most default) v = is_word v
 is_of_kind (Text least most) v = is_text v
 is_of_kind Letter v = is_letter v
+is_of_kind Columns v = is_columns v
 
 abbrev pub in_bounds : ℕ → ℕ → ℤ → Bool
 in_bounds least most (pos n) = nat_le least n && nat_le n most
@@ -64,24 +73,30 @@ is_in_range Truth v = true
 is_in_range (Number least most default) v = number_within least most v
 is_in_range (Text least most) v = length_within least most v
 is_in_range Letter v = true
+is_in_range Columns v = true
 
 abbrev pub is_of_no_key : Check → Bool
+is_of_no_key Core = true
 is_of_no_key Known = true
 is_of_no_key Kind = false
 is_of_no_key Range = false
 
-abbrev pub breaks : Check → Rule → SetValue → Bool
-breaks Known r v = false
-breaks Kind r v = not (is_of_kind r v)
-breaks Range r v = not (is_in_range r v)
+abbrev pub breaks : Check → Rule → Pair → Bool
+breaks Core r p = not (is_core_key p.name)
+breaks Known r p = false
+breaks Kind r p = not (is_of_kind r p.value)
+breaks Range r p = not (is_in_range r p.value)
 
-abbrev pub fails_by : Check → Option Rule → SetValue → Bool
-fails_by check None v = is_of_no_key check
-fails_by check (Some r) v = breaks check r v
+abbrev pub fails_by : Check → Option Rule → Pair → Bool
+fails_by check None p = is_of_no_key check
+fails_by check (Some r) p = breaks check r p
 
--- the check refuses the pair: its name is no key, its value isn't of the key's kind, or isn't in the key's range
+-- the check refuses the pair: its name is no key, or none that the core knows so far, its value isn't of the key's kind, or
+-- isn't in the key's range
 unfoldable pub fails : Check → Pair → Bool
-fails check p = fails_by check (rule_of p.name) p.value
+fails check p = fails_by check (rule_of p.name) p
+
+-- ---- the first key that a check refuses
 
 -- the first text comes before the second in byte order
 unfoldable pub is_before : List ℕ → List ℕ → Bool

@@ -1,15 +1,21 @@
 -- The first refusal that applies.
-use Rattle.std.specs.Prelude.{◌≡◌, ℕ, List, codes, ◌&&◌, is_none, Option, Some, None, ◌⊎◌, if◌then◌else◌}
+use Rattle.std.specs.Prelude.{◌≡◌, ℕ, List, codes, ◌&&◌, is_none, Option, Some, None, Result, Ok, Err, ◌⊎◌, if◌then◌else◌}
 use Rattle.std.specs.Option.{option_map, option_or}
+use Rattle.sw_column.specs.declared.column.Column.{Column}
+use Rattle.sw_call.specs.declared.column_texts.Refused.{Refused}
+use Rattle.sw_call.specs.Columns.{schema_of}
 use Rattle.sw_settings.specs.declared.pair.Pair.{Pair}
 use Rattle.sw_settings.specs.declared.checks.Check.TheVariants as checks
 use Rattle.sw_settings.specs.declared.keys.Rule.{Rule}
-use Rattle.sw_settings.specs.declared.keys.Rule.TheVariants.{Truth, Number, Text, Letter}
+use Rattle.sw_settings.specs.declared.keys.Rule.TheVariants.{Number, Text}
+use Rattle.sw_settings.specs.declared.values.Values.{Values}
 use Rattle.sw_settings.specs.declared.faults.SettingsFault.{SettingsFault}
-use Rattle.sw_settings.specs.declared.faults.SettingsFault.TheVariants.{Unknown, BadType, Range, Missing, Conflict, OutOfMemory}
+use Rattle.sw_settings.specs.declared.faults.SettingsFault.TheVariants.{Unknown, BadType, Range, Missing, Conflict, Column as ColumnFault, OutOfMemory}
 use Rattle.sw_settings.specs.Keys.{rule_of}
+use Rattle.sw_settings.specs.Columns.{columns_named}
 use Rattle.sw_settings.specs.Checks.{first_key}
-use Rattle.sw_settings.specs.Values.{truth_of, text_of}
+use Rattle.sw_settings.specs.Given.{truth_of, text_of}
+use Rattle.sw_settings.specs.Values.{values_of}
 
 -- ---- each reason, at the first key in byte order that has it
 
@@ -21,15 +27,10 @@ unknown_fault ps = option_map Unknown (first_key checks.Known ps)
 unfoldable pub type_fault : List Pair → Option SettingsFault
 type_fault ps = option_map BadType (first_key checks.Kind ps)
 
-abbrev pub out_of_rule : List ℕ → Rule → SettingsFault
-out_of_rule name Truth = Range name 0 0
-out_of_rule name (Number least most default) = Range name least most
-out_of_rule name (Text least most) = Range name least most
-out_of_rule name Letter = Range name 0 0
-
 abbrev pub out_of : List ℕ → Option Rule → SettingsFault
-out_of name None = Range name 0 0
-out_of name (Some rule) = out_of_rule name rule
+out_of name (Some (Number least most default)) = Range name least most
+out_of name (Some (Text least most)) = Range name least most
+out_of name _ = Range name 0 0
 
 -- the refusal of a key with its range; keys without one are never out of it
 abbrev pub out_of_range : List ℕ → SettingsFault
@@ -52,6 +53,14 @@ conflict_fault ps =
     if truth_of (codes "open_eof_split") ps && truth_of (codes "open_length_check") ps then Some (Conflict (codes "open_eof_split") (codes "open_length_check"))
     else None
 
+abbrev pub column_refused : Result (List Column) Refused → Option SettingsFault
+column_refused (Ok columns) = None
+column_refused (Err refused) = Some (ColumnFault refused.name refused.fault)
+
+-- a schema refuses one of the columns that the Table is to have, this one first
+abbrev pub column_fault : Values → Option SettingsFault
+column_fault v = column_refused (schema_of (columns_named v.table_columns))
+
 -- ---- one reason after the other
 
 abbrev pub from_missing : List Pair → Option SettingsFault
@@ -63,9 +72,17 @@ from_range ps = option_or (range_fault ps) (from_missing ps)
 abbrev pub from_type : List Pair → Option SettingsFault
 from_type ps = option_or (type_fault ps) (from_range ps)
 
+-- the first refusal that applies, columns left aside
+abbrev pub pairs_fault : List Pair → Option SettingsFault
+pairs_fault ps = option_or (unknown_fault ps) (from_type ps)
+
 -- the first refusal that applies
-abbrev pub fault_of : List Pair → Option SettingsFault
-fault_of ps = option_or (unknown_fault ps) (from_type ps)
+unfoldable pub fault_of : List Pair → Option SettingsFault
+fault_of ps = option_or (pairs_fault ps) (column_fault (values_of ps))
+
+-- a name is a key that the core of drills doesn't know so far, or no key; that comes before all else there
+unfoldable pub core_fault : List Pair → Option SettingsFault
+core_fault ps = option_map Unknown (first_key checks.Core ps)
 
 -- the answer is that refusal, or there was no memory
 abbrev pub IsRefusal : Option SettingsFault → SettingsFault → Type 0

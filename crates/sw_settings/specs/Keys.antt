@@ -1,21 +1,36 @@
 -- The table of keys.
-use Rattle.std.specs.Prelude.{ℕ, ◌≤◌, List, [], ◌∷◌, codes, Option, Some, None, if◌then◌else◌}
+use Rattle.std.specs.Prelude.{ℕ, ◌≤◌, List, Bool, true, false, [], ◌∷◌, codes, Option, Some, None, if◌then◌else◌}
 use Rattle.std.specs.Str.{bytes_eq}
 use Rattle.sw_frame_len.specs.declared.rule.Letter.{Letter as Letters}
 use Rattle.sw_frame_len.specs.declared.rule.Letter.TheVariants as letters
 use Rattle.sw_settings.specs.declared.keys.Rule.{Rule}
-use Rattle.sw_settings.specs.declared.keys.Rule.TheVariants.{Truth, Number, Text, Letter}
+use Rattle.sw_settings.specs.declared.keys.Rule.TheVariants.{Truth, Number, Text, Letter, Columns}
 
 -- each key with what it may be: true or false; a number from the first to the second, by default the third; a text of so
--- many bytes; a letter. A truth is false by default, a text and a letter are unset
+-- many bytes; a letter; columns. A truth is false by default, columns are none, a text and a letter are unset
 abbrev pub keys : List (List ℕ × Rule)
-keys = (codes "open_eof_split", Truth)
+keys = (codes "dispatch_mode", Number 1 5 2)
+    ∷ (codes "generation_num", Number 1 64 1)
+    ∷ (codes "max_conn", Number 1 65536 1024)
+    ∷ (codes "max_request", Number 0 4294967295 0)
+    ∷ (codes "open_eof_split", Truth)
     ∷ (codes "open_length_check", Truth)
     ∷ (codes "package_body_offset", Number 0 65535 0)
     ∷ (codes "package_eof", Text 1 8)
     ∷ (codes "package_length_offset", Number 0 65535 0)
     ∷ (codes "package_length_type", Letter)
     ∷ (codes "package_max_length", Number 1 8388608 2097152)
+    ∷ (codes "pipe_capacity", Number 1 8192 1024)
+    ∷ (codes "reactor_num", Number 1 64 1)
+    ∷ (codes "read_size", Number 1 65536 8192)
+    ∷ (codes "session_last", Number 0 4294967295 0)
+    ∷ (codes "socket_buffer_size", Number 1 67108864 2097152)
+    ∷ (codes "table_columns", Columns)
+    ∷ (codes "table_last_call", Number 0 8796093022207 8796093022207)
+    ∷ (codes "table_percent", Number 0 100 20)
+    ∷ (codes "table_size", Number 1 524288 1024)
+    ∷ (codes "task_worker_num", Number 0 64 0)
+    ∷ (codes "worker_num", Number 1 64 1)
     ∷ []
 
 abbrev pub rule_in : List (List ℕ × Rule) → List ℕ → Option Rule
@@ -28,10 +43,26 @@ rule_of name = rule_in keys name
 
 -- a default is in its range
 abbrev pub IsSoundRule : Rule → Type 0
-IsSoundRule Truth = Unit {0}
 IsSoundRule (Number least most default) = (least ≤ default) × (default ≤ most)
-IsSoundRule (Text least most) = Unit {0}
-IsSoundRule Letter = Unit {0}
+IsSoundRule _ = Unit {0}
+
+-- the keys that the core knows so far
+abbrev pub core_keys : List (List ℕ)
+core_keys = codes "open_eof_split"
+    ∷ codes "open_length_check"
+    ∷ codes "package_body_offset"
+    ∷ codes "package_eof"
+    ∷ codes "package_length_offset"
+    ∷ codes "package_length_type"
+    ∷ codes "package_max_length"
+    ∷ []
+
+abbrev pub is_among : List (List ℕ) → List ℕ → Bool
+is_among [] name = false
+is_among (n ∷ ns) name = if bytes_eq name n then true else is_among ns name
+
+unfoldable pub is_core_key : List ℕ → Bool
+is_core_key name = is_among core_keys name
 
 -- the letter that a text is, if it is one of the five
 abbrev pub letter_of : List ℕ → Option Letters

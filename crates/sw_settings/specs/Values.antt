@@ -1,89 +1,64 @@
--- What keys are set to.
-use Rattle.std.specs.Prelude.{◌≡◌, ℕ, ◌≤◌, List, [], ◌∷◌, Bool, true, false, Option, Some, None, if◌then◌else◌, ℤ, pos, negsuc}
-use Rattle.std.specs.Str.{bytes_eq}
-use Rattle.sw_settings.specs.declared.pair.SetValue.{SetValue}
-use Rattle.sw_settings.specs.declared.pair.SetValue.TheVariants as values
+-- What each key is set to by pairs, and what holds of that.
+use Rattle.std.specs.Prelude.{◌≡◌, ℕ, ◌≤◌, List, [], codes, length, true, Option, Some, IsSomeAnd}
+use Rattle.std.specs.Option.{unwrap_or}
+use Rattle.sw_text.specs.Then.{◌>>=◌}
+use Rattle.sw_frame_len.specs.declared.rule.Letter.{Letter}
 use Rattle.sw_settings.specs.declared.pair.Pair.{Pair}
-use Rattle.sw_settings.specs.declared.keys.Rule.{Rule}
-use Rattle.sw_settings.specs.declared.keys.Rule.TheVariants.{Truth, Number, Text, Letter}
-use Rattle.sw_settings.specs.Keys.{rule_of}
-use Rattle.sw_settings.specs.Checks.{is_of_kind, is_in_range}
+use Rattle.sw_settings.specs.declared.values.Values.{Values}
+use Rattle.sw_settings.specs.Keys.{letter_of}
+use Rattle.sw_settings.specs.Given.{truth_of, number_of, text_of}
 
--- the value that the pairs give to a key, if one of them has its name
-unfoldable pub given : List ℕ → List Pair → Option SetValue
-given name [] = None
-given name (p ∷ ps) = if bytes_eq p.name name then Some p.value else given name ps
+abbrev pub length_type : List Pair → Option Letter
+length_type ps = text_of (codes "package_length_type") ps >>= letter_of
 
--- ---- a truth: the pair's value where there is one, and else false
+abbrev pub text_or_none : Option (List ℕ) → List ℕ
+text_or_none t = unwrap_or t []
 
-abbrev pub truth_in : SetValue → Bool
-truth_in (values.Number n) = false
-truth_in (values.Truth b) = b
-truth_in (values.Text t) = false
+-- what the pairs set each key to
+unfoldable pub values_of : List Pair → Values
+values_of ps = record {
+  dispatch_mode = number_of (codes "dispatch_mode") ps;
+  generation_num = number_of (codes "generation_num") ps;
+  max_conn = number_of (codes "max_conn") ps;
+  max_request = number_of (codes "max_request") ps;
+  open_eof_split = truth_of (codes "open_eof_split") ps;
+  open_length_check = truth_of (codes "open_length_check") ps;
+  package_body_offset = number_of (codes "package_body_offset") ps;
+  package_eof = text_of (codes "package_eof") ps;
+  package_length_offset = number_of (codes "package_length_offset") ps;
+  package_length_type = length_type ps;
+  package_max_length = number_of (codes "package_max_length") ps;
+  pipe_capacity = number_of (codes "pipe_capacity") ps;
+  reactor_num = number_of (codes "reactor_num") ps;
+  read_size = number_of (codes "read_size") ps;
+  session_last = number_of (codes "session_last") ps;
+  socket_buffer_size = number_of (codes "socket_buffer_size") ps;
+  table_columns = text_or_none (text_of (codes "table_columns") ps);
+  table_last_call = number_of (codes "table_last_call") ps;
+  table_percent = number_of (codes "table_percent") ps;
+  table_size = number_of (codes "table_size") ps;
+  task_worker_num = number_of (codes "task_worker_num") ps;
+  worker_num = number_of (codes "worker_num") ps;
+}
 
-abbrev pub truth_or : Option SetValue → Bool
-truth_or None = false
-truth_or (Some v) = truth_in v
+abbrev pub IsWithin : ℕ → ℕ → ℕ → Type 0
+IsWithin least most n = (least ≤ n) × (n ≤ most)
 
-unfoldable pub truth_of : List ℕ → List Pair → Bool
-truth_of name ps = truth_or (given name ps)
-
--- ---- a number: the pair's value where there is one, and else the key's default
-
-abbrev pub natural : ℤ → ℕ
-natural (pos n) = n
-natural (negsuc n) = 0
-
-abbrev pub natural_in : SetValue → ℕ
-natural_in (values.Number n) = natural n
-natural_in (values.Truth b) = 0
-natural_in (values.Text t) = 0
-
-abbrev pub natural_or : ℕ → Option SetValue → ℕ
-natural_or default None = default
-natural_or default (Some v) = natural_in v
-
-abbrev pub number_by : Rule → Option SetValue → ℕ
-number_by Truth v = 0
-number_by (Number least most default) v = natural_or default v
-number_by (Text least most) v = 0
-number_by Letter v = 0
-
-abbrev pub number_at : Option Rule → Option SetValue → ℕ
-number_at None v = 0
-number_at (Some rule) v = number_by rule v
-
-unfoldable pub number_of : List ℕ → List Pair → ℕ
-number_of name ps = number_at (rule_of name) (given name ps)
-
--- ---- a text: the pair's value where there is one, and else none
-
-abbrev pub text_in : SetValue → Option (List ℕ)
-text_in (values.Number n) = None
-text_in (values.Truth b) = None
-text_in (values.Text t) = Some t
-
-abbrev pub text_or : Option SetValue → Option (List ℕ)
-text_or None = None
-text_or (Some v) = text_in v
-
-unfoldable pub text_of : List ℕ → List Pair → Option (List ℕ)
-text_of name ps = text_or (given name ps)
-
--- ---- what holds of pairs without a fault
-
--- the number is in the range of the rule
-abbrev pub InBoundsBy : Rule → ℕ → Type 0
-InBoundsBy Truth n = Unit {0}
-InBoundsBy (Number least most default) n = (least ≤ n) × (n ≤ most)
-InBoundsBy (Text least most) n = Unit {0}
-InBoundsBy Letter n = Unit {0}
-
-abbrev pub InBounds : Option Rule → ℕ → Type 0
-InBounds None n = Unit {0}
-InBounds (Some rule) n = InBoundsBy rule n
-
--- the value is of the rule's kind and in its range
-abbrev pub IsSound : Option Rule → SetValue → Type 0
-IsSound None v = Unit {0}
-IsSound (Some rule) v = (is_of_kind rule v ≡ true) × (is_in_range rule v ≡ true)
+-- each number is in its key's range, and where packets end at a mark there is one of 1 to 8 bytes
+pub record IsSound (v : Values) : Type 0 where
+  pub dispatch_mode : IsWithin 1 5 v.dispatch_mode
+  pub generation_num : IsWithin 1 64 v.generation_num
+  pub max_conn : IsWithin 1 65536 v.max_conn
+  pub package_body_offset : v.package_body_offset ≤ 65535
+  pub package_length_offset : v.package_length_offset ≤ 65535
+  pub package_max_length : IsWithin 1 8388608 v.package_max_length
+  pub pipe_capacity : IsWithin 1 8192 v.pipe_capacity
+  pub reactor_num : IsWithin 1 64 v.reactor_num
+  pub read_size : IsWithin 1 65536 v.read_size
+  pub socket_buffer_size : IsWithin 1 67108864 v.socket_buffer_size
+  pub table_last_call : v.table_last_call ≤ 8796093022207
+  pub table_percent : v.table_percent ≤ 100
+  pub table_size : IsWithin 1 524288 v.table_size
+  pub task_worker_num : v.task_worker_num ≤ 64
+  pub worker_num : IsWithin 1 64 v.worker_num
+  pub marked : v.open_eof_split ≡ true → IsSomeAnd v.package_eof (λ mark. IsWithin 1 8 (length mark))

@@ -1,16 +1,20 @@
-//! What may be wrong with a pair alone.
+//! What may be wrong with a pair alone, and which key has it first.
 
-ghost use Rattle.std.specs.Prelude.{◌≡◌, List};
+ghost use Rattle.std.specs.Prelude.{◌≡◌, IfOk, List};
 ghost use Rattle.std.specs.Option.{option_copied};
-ghost use Rattle.sw_settings.specs.Checks.{is_word, fits_word, is_text, is_truth, is_letter, is_of_kind, in_bounds, number_within, length_within, is_in_range, is_of_no_key, breaks, fails, is_before, earlier, earlier_or, first_with, first_key, IsFirstKey};
+ghost use Rattle.sw_settings.specs.Checks.{is_word, fits_word, is_text, is_truth, is_letter, is_columns, is_of_kind, in_bounds, number_within, length_within, is_in_range, is_of_no_key, breaks, fails, is_before, earlier, earlier_or, first_with, first_key, IsFirstKey};
 
-use crate::keys::{Rule, letter_of, rule_of};
+use crate::columns::are_columns;
+use crate::keys::{Rule, is_core_key, letter_of, rule_of};
 use crate::pair::{Pair, SetValue};
-use sw_base::Octets;
+use std::alloc::Global;
+use sw_base::{Octets, OutOfMemory};
 
 /// What a pair is tested for, in the order in which it is.
 #[derive(Clone, Copy)]
 pub enum Check {
+    /// Its name is a key that the core of drills knows so far.
+    Core,
     /// Its name is a key.
     Known,
     /// Its value is of the key's kind.
@@ -18,6 +22,8 @@ pub enum Check {
     /// Its value is in the key's range.
     Range,
 }
+
+// ---- kinds
 
 /// Whether the number fits 64 bits, without a sign or with one.
 fn fits_word(n: i128) -> bool
@@ -66,16 +72,30 @@ fn is_letter(value: &SetValue) -> bool
     }
 }
 
-fn is_of_kind(rule: Rule, value: &SetValue) -> bool
-    ensures { result ≡ is_of_kind rule value.now }
+fn is_columns(alloc: Global, value: &SetValue) -> Result<bool, OutOfMemory>
+    ensures { IfOk result (λ b. b ≡ is_columns value.now) }
 {
-    match rule {
-        Rule::Truth => is_truth(value),
-        Rule::Number(_, _, _) => is_word(value),
-        Rule::Text(_, _) => is_text(value),
-        Rule::Letter => is_letter(value),
+    match value {
+        SetValue::Number(_) => Ok(false),
+        SetValue::Truth(_) => Ok(false),
+        SetValue::Text(text) => are_columns(alloc, text.bytes()),
     }
 }
+
+/// Whether the value is of the rule's kind.
+fn is_of_kind(alloc: Global, rule: Rule, value: &SetValue) -> Result<bool, OutOfMemory>
+    ensures { IfOk result (λ b. b ≡ is_of_kind rule value.now) }
+{
+    match rule {
+        Rule::Truth => Ok(is_truth(value)),
+        Rule::Number { .. } => Ok(is_word(value)),
+        Rule::Text { .. } => Ok(is_text(value)),
+        Rule::Letter => Ok(is_letter(value)),
+        Rule::Columns => is_columns(alloc, value),
+    }
+}
+
+// ---- ranges
 
 fn in_bounds(least: u64, most: u64, n: i128) -> bool
     ensures { result ≡ in_bounds least most n }
@@ -103,47 +123,57 @@ fn length_within(least: u64, most: u64, value: &SetValue) -> bool
     }
 }
 
+/// Whether the value isn't out of the rule's range.
 fn is_in_range(rule: Rule, value: &SetValue) -> bool
     ensures { result ≡ is_in_range rule value.now }
 {
     match rule {
         Rule::Truth => true,
-        Rule::Number(least, most, _) => number_within(least, most, value),
-        Rule::Text(least, most) => length_within(least, most, value),
+        Rule::Number { least, most, .. } => number_within(least, most, value),
+        Rule::Text { least, most } => length_within(least, most, value),
         Rule::Letter => true,
+        Rule::Columns => true,
     }
 }
 
+// ---- the checks
+
+/// Whether the check refuses a name that is no key.
 fn is_of_no_key(check: Check) -> bool
     ensures { result ≡ is_of_no_key check }
 {
     match check {
+        Check::Core => true,
         Check::Known => true,
         Check::Kind => false,
         Check::Range => false,
     }
 }
 
-fn breaks(check: Check, rule: Rule, value: &SetValue) -> bool
-    ensures { result ≡ breaks check rule value.now }
+/// Whether the check refuses this value of a key with this rule.
+fn breaks(alloc: Global, check: Check, rule: Rule, pair: &Pair) -> Result<bool, OutOfMemory>
+    ensures { IfOk result (λ b. b ≡ breaks check rule pair.now) }
 {
     match check {
-        Check::Known => false,
-        Check::Kind => !is_of_kind(rule, value),
-        Check::Range => !is_in_range(rule, value),
+        Check::Core => Ok(!is_core_key(pair.name.bytes())),
+        Check::Known => Ok(false),
+        Check::Kind => Ok(!is_of_kind(alloc, rule, &pair.value)?),
+        Check::Range => Ok(!is_in_range(rule, &pair.value)),
     }
 }
 
 /// Whether the check refuses the pair.
 #[tactic(auto, unfolding(crate::specs::Checks::fails))]
-fn fails(check: Check, pair: &Pair) -> bool
-    ensures { result ≡ fails check pair.now }
+fn fails(alloc: Global, check: Check, pair: &Pair) -> Result<bool, OutOfMemory>
+    ensures { IfOk result (λ b. b ≡ fails check pair.now) }
 {
     match rule_of(pair.name.bytes()) {
-        None => is_of_no_key(check),
-        Some(rule) => breaks(check, rule, &pair.value),
+        None => Ok(is_of_no_key(check)),
+        Some(rule) => breaks(alloc, check, rule, pair),
     }
 }
+
+// ---- the first key of those that a check refuses
 
 #[tactic(auto, unfolding(crate::specs::Checks::is_before))]
 fn is_before(a: &[u8], b: &[u8]) -> bool
@@ -172,25 +202,36 @@ fn earlier_or<'a>(first: Option<&'a Octets>, name: &'a Octets) -> &'a Octets
     }
 }
 
-fn first_with<'a>(check: Check, first: Option<&'a Octets>, pair: &'a Pair) -> Option<&'a Octets>
-    ensures { option_copied result ≡ first_with check (option_copied first.entry) pair.now }
+/// The first key so far, or that of this pair, where the check refuses it and it comes before.
+fn first_with<'a>(
+    alloc: Global,
+    check: Check,
+    first: Option<&'a Octets>,
+    pair: &'a Pair,
+) -> Result<Option<&'a Octets>, OutOfMemory>
+    ensures { IfOk result (λ o. option_copied o ≡ first_with check (option_copied first.entry) pair.now) }
 {
-    if fails(check, pair) {
-        Some(earlier_or(first, &pair.name))
+    if fails(alloc, check, pair)? {
+        Ok(Some(earlier_or(first, &pair.name)))
     } else {
-        first
+        Ok(first)
     }
 }
 
-/// The first key, in byte order, of the pairs that the check refuses.
-pub fn first_key<'a>(check: Check, pairs: &'a [Pair]) -> Option<&'a Octets>
-    ensures { option_copied result ≡ first_key check pairs.now }
+/// The first key, in byte order, of the pairs that the check refuses. None exactly where it refuses none.
+pub fn first_key(
+    alloc: Global,
+    check: Check,
+    pairs: &[Pair],
+) -> Result<Option<&Octets>, OutOfMemory>
+    ensures { IfOk result (λ o. option_copied o ≡ first_key check pairs.now) }
 {
-    let mut first: Option<&'a Octets> = None;
+    let mut first: Option<&Octets> = None;
     for pair in pairs {
-        first = first_with(check, first, pair);
+        let next = first_with(alloc, check, first, pair)?;
+        first = next;
     }
-    first
+    Ok(first)
 }
 
 /// The first key is that of a pair that the check refuses, and none of these comes before it in byte order.

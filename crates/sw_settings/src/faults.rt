@@ -1,21 +1,24 @@
-//! Why pairs are refused.
+//! Why settings are refused.
 
 ghost use Rattle.std.specs.Prelude.{◌≡◌, IfOk, codes, None, Some};
 ghost use Rattle.std.specs.Option.{option_copied};
 ghost use Rattle.sw_settings.specs.Checks.{first_key};
-ghost use Rattle.sw_settings.specs.Faults.{unknown_fault, type_fault, range_fault, out_of_range, out_of_rule, missing_fault, conflict_fault, fault_of, from_type, from_range, from_missing};
+ghost use Rattle.sw_settings.specs.Faults.{unknown_fault, type_fault, range_fault, out_of_range, missing_fault, conflict_fault, pairs_fault, core_fault, from_type, from_range, from_missing};
 
 use crate::checks::{Check, first_key};
+use crate::given::{text, truth};
 use crate::keys::{Rule, rule_of};
 use crate::pair::Pair;
-use crate::values::{text, truth};
-use std::alloc::{AllocError, Global};
-use sw_base::{Key, OutOfMemory};
+use std::alloc::Global;
+use sw_base::{Key, Name, OutOfMemory};
+use sw_column::ColumnFault;
 
-/// Why pairs are refused, in the order in which the reasons are looked for. Among several keys with one reason it is the
+/// Why settings are refused, in the order in which the reasons are looked for. Among several keys with one reason it is the
 /// first key in byte order.
 #[derive(Drop, Debug)]
 pub enum SettingsFault {
+    /// The text is no JSON, or no object. Pairs are never refused so.
+    NotJson,
     /// There is no such key.
     Unknown(Key),
     /// The value isn't of the key's kind.
@@ -26,6 +29,8 @@ pub enum SettingsFault {
     Missing(Key),
     /// These two can't both be true.
     Conflict(Key, Key),
+    /// A schema refuses this column, the first one, for a reason that isn't `OutOfMemory`.
+    Column(Name, ColumnFault),
     /// Memory ran out.
     OutOfMemory,
 }
@@ -48,60 +53,51 @@ fn key(alloc: Global, name: &str) -> Result<Key, OutOfMemory>
 }
 
 /// The first key that the check refuses.
-fn refused(check: Check, pairs: &[Pair]) -> Result<Option<Key>, OutOfMemory>
+fn refused(alloc: Global, check: Check, pairs: &[Pair]) -> Result<Option<Key>, OutOfMemory>
     ensures { IfOk result (λ k. k ≡ first_key check pairs.now) }
 {
-    match first_key(check, pairs) {
+    match first_key(alloc, check, pairs)? {
         None => Ok(None),
         Some(name) => Ok(Some(name.copy()?)),
     }
 }
 
 #[tactic(auto, unfolding(crate::specs::Faults::unknown_fault))]
-fn unknown_fault(pairs: &[Pair]) -> Result<Option<SettingsFault>, OutOfMemory>
+fn unknown_fault(alloc: Global, pairs: &[Pair]) -> Result<Option<SettingsFault>, OutOfMemory>
     ensures { IfOk result (λ f. f ≡ unknown_fault pairs.now) }
 {
-    match refused(Check::Known, pairs)? {
+    match refused(alloc, Check::Known, pairs)? {
         None => Ok(None),
         Some(name) => Ok(Some(SettingsFault::Unknown(name))),
     }
 }
 
 #[tactic(auto, unfolding(crate::specs::Faults::type_fault))]
-fn type_fault(pairs: &[Pair]) -> Result<Option<SettingsFault>, OutOfMemory>
+fn type_fault(alloc: Global, pairs: &[Pair]) -> Result<Option<SettingsFault>, OutOfMemory>
     ensures { IfOk result (λ f. f ≡ type_fault pairs.now) }
 {
-    match refused(Check::Kind, pairs)? {
+    match refused(alloc, Check::Kind, pairs)? {
         None => Ok(None),
         Some(name) => Ok(Some(SettingsFault::BadType(name))),
     }
 }
 
-fn out_of_rule(name: Key, rule: Rule) -> SettingsFault
-    ensures { result ≡ out_of_rule name rule }
-{
-    match rule {
-        Rule::Truth => SettingsFault::Range(name, 0, 0),
-        Rule::Number(least, most, _) => SettingsFault::Range(name, least, most),
-        Rule::Text(least, most) => SettingsFault::Range(name, least, most),
-        Rule::Letter => SettingsFault::Range(name, 0, 0),
-    }
-}
-
+/// The refusal of a key whose value is out of its range.
 fn out_of_range(name: Key) -> SettingsFault
     ensures { result ≡ out_of_range name }
 {
     match rule_of(name.bytes()) {
-        None => SettingsFault::Range(name, 0, 0),
-        Some(rule) => out_of_rule(name, rule),
+        Some(Rule::Number { least, most, .. }) => SettingsFault::Range(name, least, most),
+        Some(Rule::Text { least, most }) => SettingsFault::Range(name, least, most),
+        _ => SettingsFault::Range(name, 0, 0),
     }
 }
 
 #[tactic(auto, unfolding(crate::specs::Faults::range_fault))]
-fn range_fault(pairs: &[Pair]) -> Result<Option<SettingsFault>, OutOfMemory>
+fn range_fault(alloc: Global, pairs: &[Pair]) -> Result<Option<SettingsFault>, OutOfMemory>
     ensures { IfOk result (λ f. f ≡ range_fault pairs.now) }
 {
-    match refused(Check::Range, pairs)? {
+    match refused(alloc, Check::Range, pairs)? {
         None => Ok(None),
         Some(name) => Ok(Some(out_of_range(name))),
     }
@@ -144,7 +140,7 @@ fn from_missing(alloc: Global, pairs: &[Pair]) -> Result<Option<SettingsFault>, 
 fn from_range(alloc: Global, pairs: &[Pair]) -> Result<Option<SettingsFault>, OutOfMemory>
     ensures { IfOk result (λ f. f ≡ from_range pairs.now) }
 {
-    match range_fault(pairs)? {
+    match range_fault(alloc, pairs)? {
         Some(fault) => Ok(Some(fault)),
         None => from_missing(alloc, pairs),
     }
@@ -153,18 +149,29 @@ fn from_range(alloc: Global, pairs: &[Pair]) -> Result<Option<SettingsFault>, Ou
 fn from_type(alloc: Global, pairs: &[Pair]) -> Result<Option<SettingsFault>, OutOfMemory>
     ensures { IfOk result (λ f. f ≡ from_type pairs.now) }
 {
-    match type_fault(pairs)? {
+    match type_fault(alloc, pairs)? {
         Some(fault) => Ok(Some(fault)),
         None => from_range(alloc, pairs),
     }
 }
 
-/// The first refusal that applies.
-pub fn fault(alloc: Global, pairs: &[Pair]) -> Result<Option<SettingsFault>, OutOfMemory>
-    ensures { IfOk result (λ f. f ≡ fault_of pairs.now) }
+/// The first refusal that applies, columns left aside.
+pub fn pairs_fault(alloc: Global, pairs: &[Pair]) -> Result<Option<SettingsFault>, OutOfMemory>
+    ensures { IfOk result (λ f. f ≡ pairs_fault pairs.now) }
 {
-    match unknown_fault(pairs)? {
+    match unknown_fault(alloc, pairs)? {
         Some(fault) => Ok(Some(fault)),
         None => from_type(alloc, pairs),
+    }
+}
+
+/// The refusal of the first key, in byte order, that the core of drills doesn't know so far. None exactly where it knows all.
+#[tactic(auto, unfolding(crate::specs::Faults::core_fault))]
+pub fn core_fault(alloc: Global, pairs: &[Pair]) -> Result<Option<SettingsFault>, OutOfMemory>
+    ensures { IfOk result (λ f. f ≡ core_fault pairs.now) }
+{
+    match refused(alloc, Check::Core, pairs)? {
+        None => Ok(None),
+        Some(name) => Ok(Some(SettingsFault::Unknown(name))),
     }
 }

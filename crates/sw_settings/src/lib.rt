@@ -3,18 +3,19 @@
 #![tactic(auto)]
 
 mod checks;
+mod columns;
+mod display;
 mod faults;
 mod framings;
+mod given;
 mod keys;
 mod pair;
 mod settings;
 mod values;
 
 pub use checks::{Check, first_key_is_exact};
-pub use faults::SettingsFault;
+pub use faults::{SettingsFault, core_fault};
+pub use keys::{KEYS, Rule};
 pub use pair::{Pair, SetValue};
 pub use settings::{Settings, from_pairs};
-pub use values::given;
-
-#[cfg(test)]
-mod tests;
+pub use values::Values;

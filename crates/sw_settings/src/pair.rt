@@ -1,4 +1,4 @@
-//! A key with what it is set to.
+//! A key with what it is set to, as it was read.
 use sw_base::Octets;
 
 /// What a key is set to, as it was read.
@@ -6,7 +6,9 @@ use sw_base::Octets;
 pub enum SetValue {
     /// A whole number. One that fits 64 bits neither without a sign nor with one is of no key's kind.
     Number(i128),
+    /// `true` or `false`.
     Truth(bool),
+    /// Bytes.
     Text(Octets),
 }
 

@@ -1,136 +1,102 @@
-//! What keys are set to: the pair's value where there is one, and else the default.
+//! What each key is set to, read once.
 
-ghost use Rattle.std.specs.Prelude.{◌≡◌, ◌≤◌, IfSome, Some, None, true, Bool};
-ghost use Rattle.std.specs.Option.{option_copied};
-ghost use Rattle.sw_settings.specs.Keys.{rule_of, IsSoundRule};
-ghost use Rattle.sw_settings.specs.Checks.{in_bounds};
-ghost use Rattle.sw_settings.specs.Values.{given, truth_in, truth_or, truth_of, natural, natural_in, natural_or, number_by, number_of, text_in, text_or, text_of, InBounds, IsSound};
-ghost use Rattle.sw_settings.specs.Faults.{fault_of};
+ghost use Rattle.std.specs.Prelude.{◌≡◌, None, IfOk, codes};
+ghost use Rattle.sw_settings.specs.Given.{text_of};
+ghost use Rattle.sw_settings.specs.Values.{length_type, text_or_none, values_of, IsSound};
+ghost use Rattle.sw_settings.specs.Faults.{pairs_fault};
 
-use crate::keys::{Rule, rule_of};
-use crate::pair::{Pair, SetValue};
-use sw_base::Octets;
+use crate::given::{number, small, text, truth};
+use crate::keys::letter_of;
+use crate::pair::Pair;
+use std::alloc::Global;
+use sw_base::{Octets, OutOfMemory};
+use sw_frame_len::Letter;
 
-/// The value that the pairs give to a name: that of the first pair of this name. None exactly where no pair has it.
-pub fn given<'a>(pairs: &'a [Pair], name: &[u8]) -> Option<&'a SetValue>
-    ensures { option_copied result ≡ given name.now pairs.now }
-{
-    for pair in pairs {
-        if pair.name.bytes() == name {
-            return Some(&pair.value);
-        }
-    }
-    None
+/// What each key is set to, or its default. A text that isn't set is None, or empty where the key may be set to an empty one.
+#[derive(Drop, Debug)]
+pub struct Values {
+    pub dispatch_mode: u32,
+    pub generation_num: u32,
+    pub max_conn: u32,
+    pub max_request: u32,
+    pub open_eof_split: bool,
+    pub open_length_check: bool,
+    pub package_body_offset: u32,
+    pub package_eof: Option<Octets>,
+    pub package_length_offset: u32,
+    pub package_length_type: Option<Letter>,
+    pub package_max_length: u64,
+    pub pipe_capacity: u32,
+    pub reactor_num: u32,
+    pub read_size: u32,
+    pub session_last: u32,
+    pub socket_buffer_size: u64,
+    pub table_columns: Octets,
+    pub table_last_call: u64,
+    pub table_percent: u32,
+    pub table_size: u32,
+    pub task_worker_num: u32,
+    pub worker_num: u32,
 }
 
-/// The same, of pairs that have no fault.
-fn sound<'a>(pairs: &'a [Pair], name: &str) -> Option<&'a SetValue>
-    requires { fault_of pairs.now ≡ None }
-    ensures value { option_copied result ≡ given name.now pairs.now }
-    ensures sound { IfSome result (λ v. IsSound (rule_of name.now) v.now) }
+fn package_eof(pairs: &[Pair]) -> Result<Option<Octets>, OutOfMemory>
+    ensures { IfOk result (λ t. t ≡ text_of (codes "package_eof") pairs.now) }
 {
-    given(pairs, name.as_bytes())
-}
-
-fn truth_in(value: &SetValue) -> bool
-    ensures { result ≡ truth_in value.now }
-{
-    match value {
-        SetValue::Number(_) => false,
-        SetValue::Truth(is) => *is,
-        SetValue::Text(_) => false,
-    }
-}
-
-/// Whether a key is set to true.
-#[tactic(auto, unfolding(crate::specs::Values::truth_of))]
-pub fn truth(pairs: &[Pair], name: &str) -> bool
-    ensures { result ≡ truth_of name.now pairs.now }
-{
-    match given(pairs, name.as_bytes()) {
-        None => false,
-        Some(value) => truth_in(value),
+    match text(pairs, "package_eof") {
+        None => Ok(None),
+        Some(mark) => Ok(Some(mark.copy()?)),
     }
 }
 
-fn natural(n: i128, least: u64, most: u64) -> u64
-    requires { in_bounds least most n ≡ true }
-    ensures value { result ≡ natural n }
-    ensures bounds { (least ≤ result) × (result ≤ most) }
+fn package_length_type(pairs: &[Pair]) -> Option<Letter>
+    ensures { result ≡ length_type pairs.now }
 {
-    n as u64
+    let text = text(pairs, "package_length_type")?;
+    letter_of(text.bytes())
 }
 
-fn natural_in(value: &SetValue, least: u64, most: u64, default: u64) -> u64
-    requires { IsSound (Some (Rule.Number least most default)) value.now }
-    ensures value { result ≡ natural_in value.now }
-    ensures bounds { (least ≤ result) × (result ≤ most) }
+fn table_columns(alloc: Global, pairs: &[Pair]) -> Result<Octets, OutOfMemory>
+    ensures { IfOk result (λ t. t ≡ text_or_none (text_of (codes "table_columns") pairs.now)) }
 {
-    match value {
-        SetValue::Number(n) => natural(*n, least, most),
-        SetValue::Truth(_) => least,
-        SetValue::Text(_) => least,
+    match text(pairs, "table_columns") {
+        None => Ok(Octets::new(alloc)),
+        Some(columns) => columns.copy(),
     }
 }
 
-fn number_or(pairs: &[Pair], name: &str, least: u64, most: u64, default: u64) -> u64
-    requires sound { fault_of pairs.now ≡ None }
-    requires rule { rule_of name.now ≡ Some (Rule.Number least most default) }
-    requires default { (least ≤ default) × (default ≤ most) }
-    ensures value { result ≡ natural_or default (given name.now pairs.now) }
-    ensures bounds { (least ≤ result) × (result ≤ most) }
-{
-    match sound(pairs, name) {
-        None => default,
-        Some(value) => natural_in(value, least, most, default),
-    }
-}
-
-fn number_by(pairs: &[Pair], name: &str, rule: Rule) -> u64
-    requires sound { fault_of pairs.now ≡ None }
-    requires rule { rule_of name.now ≡ Some rule }
-    requires default { IsSoundRule rule }
-    ensures value { result ≡ number_by rule (given name.now pairs.now) }
-    ensures bounds { InBounds (Some rule) result }
-{
-    match rule {
-        Rule::Truth => 0,
-        Rule::Number(least, most, default) => number_or(pairs, name, least, most, default),
-        Rule::Text(_, _) => 0,
-        Rule::Letter => 0,
-    }
-}
-
-/// The number that a key is set to, in its range.
-#[tactic(auto, unfolding(crate::specs::Values::number_of))]
-pub fn number(pairs: &[Pair], name: &str) -> u64
-    requires { fault_of pairs.now ≡ None }
-    ensures value { result ≡ number_of name.now pairs.now }
-    ensures bounds { InBounds (rule_of name.now) result }
-{
-    match rule_of(name.as_bytes()) {
-        None => 0,
-        Some(rule) => number_by(pairs, name, rule),
-    }
-}
-
-fn text_in(value: &SetValue) -> Option<&Octets>
-    ensures { option_copied result ≡ text_in value.now }
-{
-    match value {
-        SetValue::Number(_) => None,
-        SetValue::Truth(_) => None,
-        SetValue::Text(text) => Some(text),
-    }
-}
-
-/// The text that a key is set to. None exactly where it is set to none.
-#[tactic(auto, unfolding(crate::specs::Values::text_of))]
-pub fn text<'a>(pairs: &'a [Pair], name: &str) -> Option<&'a Octets>
-    ensures { option_copied result ≡ text_of name.now pairs.now }
-{
-    match given(pairs, name.as_bytes()) {
-        None => None,
-        Some(value) => text_in(value),
+impl Values {
+    /// What the pairs set each key to.
+    #[tactic(auto, unfolding(crate::specs::Keys::rule_of, crate::specs::Values::values_of))]
+    pub fn of(alloc: Global, pairs: &[Pair]) -> Result<Values, OutOfMemory>
+        requires { pairs_fault pairs.now ≡ None }
+        ensures value { IfOk result (λ v. v ≡ values_of pairs.now) }
+        ensures sound { IfOk result IsSound }
+    {
+        let package_eof = package_eof(pairs)?;
+        let table_columns = table_columns(alloc, pairs)?;
+        Ok(Values {
+            dispatch_mode: small(pairs, "dispatch_mode"),
+            generation_num: small(pairs, "generation_num"),
+            max_conn: small(pairs, "max_conn"),
+            max_request: small(pairs, "max_request"),
+            open_eof_split: truth(pairs, "open_eof_split"),
+            open_length_check: truth(pairs, "open_length_check"),
+            package_body_offset: small(pairs, "package_body_offset"),
+            package_eof,
+            package_length_offset: small(pairs, "package_length_offset"),
+            package_length_type: package_length_type(pairs),
+            package_max_length: number(pairs, "package_max_length"),
+            pipe_capacity: small(pairs, "pipe_capacity"),
+            reactor_num: small(pairs, "reactor_num"),
+            read_size: small(pairs, "read_size"),
+            session_last: small(pairs, "session_last"),
+            socket_buffer_size: number(pairs, "socket_buffer_size"),
+            table_columns,
+            table_last_call: number(pairs, "table_last_call"),
+            table_percent: small(pairs, "table_percent"),
+            table_size: small(pairs, "table_size"),
+            task_worker_num: small(pairs, "task_worker_num"),
+            worker_num: small(pairs, "worker_num"),
+        })
     }
 }

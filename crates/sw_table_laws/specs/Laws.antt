@@ -1,3 +1,4 @@
+-- Laws of the Table over all calls and rows.
 use Rattle.std.specs.Prelude.{◌≡◌, ◌≢◌, ℕ, ◌+◌, ◌-◌, ◌*◌, ◌^◌, ◌≤◌, ◌<◌, List, [], ◌∷◌, Option, Some, None, Bool, true, false, IsSome, nat_lt, ℤ, ◌+ℤ◌}
 use Rattle.std.specs.FinMap as map
 use Rattle.sw_base.specs.declared.table.Value.{Value}

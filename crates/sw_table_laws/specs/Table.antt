@@ -142,7 +142,8 @@ unfoldable pub left_by : Shape → State → List Entry → State
 left_by t s [] = s
 left_by t s (e ∷ es) = left_by t (TStep t s e.call).state es
 
--- each call fits the columns and has the reply and the row of its step, from these rows on
+-- each call fits the columns and has the reply and the row of its step, from these rows on; a call that doesn't fit has
+-- no place
 unfoldable pub LegalFrom : Shape → State → List Entry → Type 0
 LegalFrom t s [] = Unit {0}
 LegalFrom t s (e ∷ es) = (call_fault t.columns e.call ≡ None) × (e.reply ≡ (TStep t s e.call).reply) × (e.cells ≡ (TStep t s e.call).cells) × LegalFrom t (TStep t s e.call).state es

@@ -1,3 +1,4 @@
+-- IPv4 addresses and their texts.
 use Rattle.std.specs.Prelude.{ℕ, ◌+◌, ◌*◌, ◌/◌, ◌%◌, List, ◌++◌, Option, Some, codes}
 use Rattle.std.specs.Fmt.{decimal}
 use Rattle.sw_text.specs.Then.{◌>>=◌}

@@ -1,3 +1,4 @@
+-- Decimal numbers.
 use Rattle.std.specs.Prelude.{ℕ, ◌+◌, ◌*◌, ◌-◌, ◌<◌, List, [], ◌∷◌, Option, Some, None, ℤ, pos, negsuc, nat_eq, nat_lt, if◌then◌else◌}
 use Rattle.sw_text.specs.Then.{◌>>=◌}
 

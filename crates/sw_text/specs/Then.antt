@@ -1,3 +1,4 @@
+-- One reading after the other.
 use Rattle.std.specs.Prelude.{Option, Some, None}
 
 -- the second step, where the first one gave a value for it

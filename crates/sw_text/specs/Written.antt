@@ -1,3 +1,4 @@
+-- Texts that stand behind each other.
 use Rattle.std.specs.Prelude.{◌≡◌, ℕ, List, ◌++◌}
 
 -- the one text stands in front of the other

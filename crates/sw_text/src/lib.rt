@@ -13,6 +13,3 @@ pub use numbers::{
     number, number_within, numbers_agree, put_number, put_signed, signed, signed_agree,
 };
 pub use parts::{cut, is, lines_agree, next_line, part};
-
-#[cfg(test)]
-mod tests;

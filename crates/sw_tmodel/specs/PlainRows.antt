@@ -1,3 +1,4 @@
+-- The rows of the plain Table; not seen from outside.
 use Rattle.std.specs.Option.{option_map}
 use Rattle.std.specs.Prelude.{◌≡◌, ℕ, ◌≤◌, Option, Some, slice_get, slice_set, unwrap_or, List, [], ◌∷◌, map, Bool, true, false, IsTrue, nat_eq}
 use Rattle.sw_base.specs.declared.table.Value.{Value}

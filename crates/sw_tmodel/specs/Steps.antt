@@ -1,3 +1,4 @@
+-- The steps of the plain Table; not seen from outside.
 use Rattle.std.specs.Prelude.{◌≡◌, ℕ, ◌<◌, List, length, Option, Some, None, true, false}
 use Rattle.std.specs.FinMap as map
 use Rattle.sw_base.specs.declared.table.Value.{Value}

@@ -11,6 +11,3 @@ mod steps;
 mod store;
 
 pub use plain::Plain;
-
-#[cfg(test)]
-mod tests;

@@ -2,10 +2,10 @@ use Rattle.std.proofs.Common.{◌≡◌, ℕ, zero, suc, ◌+◌, List, [], ◌�
 use Rattle.std.specs.Prelude.{replicate}
 use Rattle.std.proofs.lemmas.Grind.{replicate_next, flat_map-append}
 use Rattle.std.proofs.lemmas.List.{append-nil}
-use Rattle.sw_record.specs.declared.step.Step.{Step}
+use Rattle.sw_thin_record.specs.declared.step.Step.{Step}
 use Rattle.sw_drill.specs.declared.schedule.Line.{Line}
 use Rattle.sw_drill.specs.Steps.{round, rounds, steps_of_line, steps_of}
-use Rattle.sw_world.specs.declared.state.State.{State}
+use Rattle.sw_thin_world.specs.declared.state.State.{State}
 use Rattle.sw_top.specs.Run.{stepped, played}
 
 -- steps behind others

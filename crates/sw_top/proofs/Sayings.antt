@@ -1,19 +1,25 @@
 use Rattle.std.proofs.Common.{◌≡◌, ℕ, ◌≤◌, false, true≢false, List, ◌++◌, length, Option, Some, None, Result, Ok, Err, refl, ap, sym, subst, ◌∙◌, inl, inr, arith, length-append}
 use Rattle.std.proofs.lemmas.List.{append-nil}
+use Rattle.std.specs.Option.{option_or}
+use Rattle.std.specs.Prelude.{IfOk}
+use Rattle.sw_base.specs.declared.out_of_memory.OutOfMemory.{OutOfMemory}
 use Rattle.std.specs.Io.KnownBytes.{Consumes, IsAtEnd}
 use Rattle.sw_drill.specs.declared.schedule.Drill.{Drill}
 use Rattle.sw_drill.specs.Draft.{drill_of}
 use Rattle.sw_settings.specs.declared.faults.SettingsFault.{SettingsFault}
-use Rattle.sw_settings.specs.Faults.{IsRefusal, fault_of}
+use Rattle.sw_settings.specs.declared.values.Values.{Values}
+use Rattle.sw_settings.specs.declared.pair.Pair.{Pair}
+use Rattle.sw_settings.specs.Faults.{IsRefusal, core_fault, fault_of}
+use Rattle.sw_settings_json.specs.Json.{json_settings}
 use Rattle.sw_top.specs.declared.refusal.Refusal.{Refusal}
 use Rattle.sw_top.specs.declared.refusal.Refusal.TheVariants.{Line, Settings, Place}
 use Rattle.sw_top.specs.declared.words.Command.{Command}
-use Rattle.sw_top.specs.declared.words.Command.TheVariants.{Drill as DrillCommand, Audit}
-use Rattle.sw_top.specs.Answering.{Answers}
-use Rattle.sw_top.specs.Refusals.{is_memory, refusal_text, refusal_status}
+use Rattle.sw_top.specs.declared.words.Command.TheVariants.{Drill as DrillCommand, Audit, Settings as SettingsCommand}
+use Rattle.sw_top.specs.Answering.{Answers, shown}
+use Rattle.sw_top.specs.Refusals.{drill_fault, IsMade, IsSettled, is_memory, refusal_text, refusal_status}
 use Rattle.sw_top.specs.Run.{played_or, answered}
 use Rattle.sw_top.specs.Words.{command_of}
-use Rattle.sw_top.specs.Says.{FromSource, FromSink, IsInput, IsAnswered, IsWritten, IsCut, Due, DueBy, Meant, Finishes, cut_status, DoesBy, Said, expected_by, expected, Expected, IsComplete}
+use Rattle.sw_top.specs.Says.{FromSource, FromSink, IsInput, IsAnswered, IsWritten, IsCut, Due, DueBy, Meant, Finishes, cut_status, DoesBy, Said, expected_by, expected, settings_status, Expected, IsComplete}
 use Rattle.sw_top.specs.declared.status.Status.{Status}
 use Rattle.sw_top.specs.declared.status.Status.TheVariants as statuses
 
@@ -69,7 +75,7 @@ ok_by d None text e = refl
 ok_by d (Some fault) text e = absurd cc
 
 ok_answer : (r : Result Drill ℕ) (text : List ℕ) → answered r ≡ Ok text → expected r ≡ statuses.Ok
-ok_answer (Ok d) text e = ok_by d (fault_of d.pairs) text e
+ok_answer (Ok d) text e = ok_by d (drill_fault d.pairs) text e
 ok_answer (Err n) text e = absurd cc
 
 line_by : (d : Drill) (o : Option SettingsFault) (n : ℕ) → played_or d o ≡ Err (Line n) → ⊥
@@ -77,7 +83,7 @@ line_by d None n e = cc
 line_by d (Some fault) n e = cc
 
 line_answer : (r : Result Drill ℕ) (n : ℕ) → answered r ≡ Err (Line n) → expected r ≡ statuses.BadLine n
-line_answer (Ok d) n e = absurd (line_by d (fault_of d.pairs) n e)
+line_answer (Ok d) n e = absurd (line_by d (drill_fault d.pairs) n e)
 line_answer (Err m) n e = let f : m ≡ n = cc in ap (λ (x : ℕ). statuses.BadLine x) f
 
 settings_by : (d : Drill) (o : Option SettingsFault) (fault : SettingsFault) → played_or d o ≡ Err (Settings fault) → expected_by o ≡ statuses.Settings fault
@@ -85,34 +91,56 @@ settings_by d None fault e = absurd cc
 settings_by d (Some g) fault e = let f : g ≡ fault = cc in ap (λ (x : SettingsFault). statuses.Settings x) f
 
 settings_answer : (r : Result Drill ℕ) (fault : SettingsFault) → answered r ≡ Err (Settings fault) → expected r ≡ statuses.Settings fault
-settings_answer (Ok d) fault e = settings_by d (fault_of d.pairs) fault e
+settings_answer (Ok d) fault e = settings_by d (drill_fault d.pairs) fault e
 settings_answer (Err m) fault e = absurd cc
+
+-- the status of settings that are shown, and of refused ones
+
+ok_shown : (r : Result Values SettingsFault) (text : List ℕ) → Ok text ≡ shown r → statuses.Ok ≡ settings_status r
+ok_shown (Ok v) text e = refl
+ok_shown (Err fault) text e = absurd cc
+
+line_shown : (r : Result Values SettingsFault) (n : ℕ) → Err (Line n) ≡ shown r → ⊥
+line_shown (Ok v) n e = cc
+line_shown (Err fault) n e = cc
+
+settings_shown : (r : Result Values SettingsFault) (fault : SettingsFault) → Err (Settings fault) ≡ shown r → statuses.Settings fault ≡ settings_status r
+settings_shown (Ok v) fault e = absurd cc
+settings_shown (Err g) fault e = let f : fault ≡ g = cc in ap (λ (x : SettingsFault). statuses.Settings x) f
+
+place_shown : (r : Result Values SettingsFault) (at : ℕ) → Err (Place at) ≡ shown r → ⊥
+place_shown (Ok v) at e = cc
+place_shown (Err fault) at e = cc
 
 -- what an answer says of the status
 
 ok_expected : (c : Command) (input text : List ℕ) → Answers c input (Ok text) → Expected c input statuses.Ok
 ok_expected DrillCommand input text a = sym (ok_answer (drill_of input) text a)
 ok_expected Audit input text a = (a.0, a.1)
+ok_expected SettingsCommand input text a = ok_shown (json_settings input) text a
 
 line_expected : (c : Command) (input : List ℕ) (n : ℕ) → Answers c input (Err (Line n)) → Expected c input (statuses.BadLine n)
 line_expected DrillCommand input n a = sym (line_answer (drill_of input) n a)
 line_expected Audit input n a = a
+line_expected SettingsCommand input n a = absurd (line_shown (json_settings input) n a)
 
 settings_expected : (c : Command) (input : List ℕ) (fault : SettingsFault) → Answers c input (Err (Settings fault)) → Expected c input (statuses.Settings fault)
 settings_expected DrillCommand input fault a = sym (settings_answer (drill_of input) fault a)
 settings_expected Audit input fault a = absurd a
+settings_expected SettingsCommand input fault a = settings_shown (json_settings input) fault a
 
 place_by : (d : Drill) (o : Option SettingsFault) (at : ℕ) → played_or d o ≡ Err (Place at) → ⊥
 place_by d None at e = cc
 place_by d (Some fault) at e = cc
 
 place_answer : (r : Result Drill ℕ) (at : ℕ) → answered r ≡ Err (Place at) → ⊥
-place_answer (Ok d) at e = place_by d (fault_of d.pairs) at e
+place_answer (Ok d) at e = place_by d (drill_fault d.pairs) at e
 place_answer (Err n) at e = cc
 
 place_expected : (c : Command) (input : List ℕ) (at : ℕ) → Answers c input (Err (Place at)) → Expected c input (statuses.No at)
 place_expected DrillCommand input at a = absurd (place_answer (drill_of input) at a)
 place_expected Audit input at a = a
+place_expected SettingsCommand input at a = absurd (place_shown (json_settings input) at a)
 
 -- what is due for a known command
 due : (words : List (List ℕ)) (c : Command) (s : FromSource) (status : Status) (text : List ℕ) → command_of words ≡ Some c → Meant words s status text → Due c s status text
@@ -131,7 +159,7 @@ complete words s k (statuses.Settings fault) d c is no_read no_write input e fit
     inl (settings_expected c input fault (answered_all c s (Err (Settings fault)) input e (due words c s (statuses.Settings fault) d.0 is d.1).0))
 complete words s k statuses.InputLong d c is no_read no_write input e fits =
     let came = (due words c s statuses.InputLong d.0 is d.1).0 in
-    absurd (omega (arith, part_of s.left_new came.0 input (subst (λ l. Consumes l s.left_new came.0) e came.1), came.2, fits))
+    absurd (omega (arith, part_of s.left_new came.0 input (subst (λ l. Consumes l s.left_new came.0) e came.1), came.2.0, fits))
 complete words s k (statuses.No at) d c is no_read no_write input e fits =
     inl (place_expected c input at (answered_all c s (Err (Place at)) input e (due words c s (statuses.No at) d.0 is d.1).0))
 complete words s k statuses.Usage d c is no_read no_write input e fits = absurd (due words c s statuses.Usage d.0 is d.1)
@@ -153,3 +181,28 @@ pub refused_due : (c : Command) (s : FromSource) (refusal : Refusal) (status : S
 refused_due c s (Line n) status text came is t = subst (λ (x : Status). Due c s x text) (sym is) (came, t)
 refused_due c s (Settings fault) status text came is t = subst (λ (x : Status). Due c s x text) (sym is) (came, t)
 refused_due c s (Place at) status text came is t = subst (λ (x : Status). Due c s x text) (sym is) (came, t)
+
+-- ---- a drill's settings
+
+core_first : (o rest : Option SettingsFault) (fault : SettingsFault) → o ≡ Some fault → option_or o rest ≡ Some fault
+core_first None rest fault e = absurd cc
+core_first (Some g) rest fault e = e
+
+core_passes : (o rest : Option SettingsFault) → o ≡ None → option_or o rest ≡ rest
+core_passes None rest e = refl
+core_passes (Some g) rest e = absurd cc
+
+-- a key that the core doesn't know so far is refused first
+pub refused_first : (ps : List Pair) (fault : SettingsFault) → core_fault ps ≡ Some fault → drill_fault ps ≡ Some fault
+unfolding drill_fault
+refused_first ps fault e = core_first (core_fault ps) (fault_of ps) fault e
+
+-- where the core knows all keys, the fault is that of the settings
+known_keys : (ps : List Pair) → core_fault ps ≡ None → drill_fault ps ≡ fault_of ps
+unfolding drill_fault
+known_keys ps e = core_passes (core_fault ps) (fault_of ps) e
+
+pub known_settled : (ps : List Pair) → core_fault ps ≡ None → (r : Result (Result Values SettingsFault) OutOfMemory) → IfOk r (IsMade ps) → IfOk r (IsSettled ps)
+known_settled ps known (Ok (Ok v)) m = (known_keys ps known ∙ m.0, m.1)
+known_settled ps known (Ok (Err fault)) m = known_keys ps known ∙ m
+known_settled ps known (Err e) m = tt

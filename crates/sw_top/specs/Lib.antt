@@ -5,3 +5,4 @@ pub mod Run
 pub mod Answering
 pub mod Says
 pub mod Rightly
+pub mod Line

@@ -1,11 +1,16 @@
 -- Why an input is refused, and what is written then.
-use Rattle.std.specs.Prelude.{◌≡◌, ◌++◌, ℕ, List, [], codes, Bool, true, false, Some, None, Result, Ok, Err}
+use Rattle.std.specs.Prelude.{◌≡◌, ◌++◌, ℕ, List, [], codes, Bool, true, false, Option, Some, None, Result, Ok, Err}
+use Rattle.std.specs.Option.{option_or}
 use Rattle.std.specs.Fmt.{decimal}
 use Rattle.sw_text.specs.Hex.{hex}
+use Rattle.sw_column.specs.declared.column.ColumnFault.{ColumnFault}
+use Rattle.sw_column.specs.declared.column.ColumnFault.TheVariants as columns
 use Rattle.sw_settings.specs.declared.pair.Pair.{Pair}
 use Rattle.sw_settings.specs.declared.faults.SettingsFault.{SettingsFault}
-use Rattle.sw_settings.specs.declared.faults.SettingsFault.TheVariants.{Unknown, BadType, Range, Missing, Conflict, OutOfMemory}
-use Rattle.sw_settings.specs.Faults.{fault_of}
+use Rattle.sw_settings.specs.declared.faults.SettingsFault.TheVariants.{NotJson, Unknown, BadType, Range, Missing, Conflict, Column, OutOfMemory}
+use Rattle.sw_settings.specs.declared.values.Values.{Values}
+use Rattle.sw_settings.specs.Values.{values_of}
+use Rattle.sw_settings.specs.Faults.{core_fault, fault_of}
 use Rattle.sw_top.specs.declared.refusal.Refusal.{Refusal}
 use Rattle.sw_audit.specs.declared.verdict.Verdict.TheVariants as verdicts
 use Rattle.sw_audit.specs.Printing.{verdict_text}
@@ -17,13 +22,24 @@ use Rattle.sw_top.specs.declared.status.Status.TheVariants as statuses
 abbrev pub key_text : List ℕ → List ℕ → List ℕ
 key_text word key = word ++ key
 
--- the reason, with the key that it is about: a key that isn't known as hexadecimal digits
+-- what is wrong with a column; want of memory is never shown
+abbrev pub column_word : ColumnFault → List ℕ
+column_word columns.TooMany = codes "toomany"
+column_word columns.BadName = codes "badname"
+column_word columns.Twice = codes "twice"
+column_word columns.Float = codes "float"
+column_word columns.BadSize = codes "badsize"
+column_word columns.OutOfMemory = codes "memory"
+
+-- the reason, with the key that it is about: a key that isn't known and a column's name as hexadecimal digits
 abbrev pub reason_text : SettingsFault → List ℕ
+reason_text NotJson = codes "notjson"
 reason_text (Unknown key) = key_text (codes "unknown x") (hex key)
 reason_text (BadType key) = key_text (codes "type ") key
 reason_text (Range key least most) = key_text (codes "range ") key ++ codes " " ++ decimal least ++ codes " " ++ decimal most
 reason_text (Missing key) = key_text (codes "missing ") key
 reason_text (Conflict key other) = key_text (codes "conflict ") key ++ key_text (codes " ") other
+reason_text (Column name fault) = key_text (codes "column x") (hex name) ++ key_text (codes " ") (column_word fault)
 reason_text OutOfMemory = []
 
 -- the line that is written for refused settings
@@ -46,14 +62,19 @@ refusal_status (Settings fault) = statuses.Settings fault
 refusal_status (Place at) = statuses.No at
 
 abbrev pub is_memory : SettingsFault → Bool
-is_memory (Unknown key) = false
-is_memory (BadType key) = false
-is_memory (Range key least most) = false
-is_memory (Missing key) = false
-is_memory (Conflict key other) = false
 is_memory OutOfMemory = true
+is_memory _ = false
+
+-- why a drill's settings are refused: for a key that the core doesn't know so far, or for their first fault
+unfoldable pub drill_fault : List Pair → Option SettingsFault
+drill_fault ps = option_or (core_fault ps) (fault_of ps)
 
 -- the pairs are settings, or are refused for their first fault
-abbrev pub IsSettled : List Pair → Result (List Pair) SettingsFault → Type 0
-IsSettled ps (Ok s) = (fault_of ps ≡ None) × (s ≡ ps)
-IsSettled ps (Err fault) = fault_of ps ≡ Some fault
+abbrev pub IsMade : List Pair → Result Values SettingsFault → Type 0
+IsMade ps (Ok v) = (fault_of ps ≡ None) × (v ≡ values_of ps)
+IsMade ps (Err fault) = fault_of ps ≡ Some fault
+
+-- the same, where a key that the core doesn't know so far is refused first
+abbrev pub IsSettled : List Pair → Result Values SettingsFault → Type 0
+IsSettled ps (Ok v) = (drill_fault ps ≡ None) × (v ≡ values_of ps)
+IsSettled ps (Err fault) = drill_fault ps ≡ Some fault

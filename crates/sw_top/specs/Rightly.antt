@@ -1,45 +1,48 @@
 -- What a user relies on, of the record that is printed.
-use Rattle.std.specs.Prelude.{◌≡◌, ℕ, List, slice_get, Option, Some, None}
-use Rattle.sw_data.specs.declared.ended.Ended.{Ended}
-use Rattle.sw_record.specs.declared.step.Step.{Step}
-use Rattle.sw_record.specs.declared.record.LinkRecord.{LinkRecord}
-use Rattle.sw_record.specs.declared.record.LinkState.TheVariants.{Over}
-use Rattle.sw_record.specs.Ends.{Drained}
-use Rattle.sw_record.specs.Right.{Right}
+use Rattle.std.specs.Prelude.{◌≡◌, ℕ, List, slice_get, Option, Some, None, Ok}
+use Rattle.sw_thin_data.specs.declared.ended.Ended.{Ended}
+use Rattle.sw_thin_record.specs.declared.record.LinkRecord.{LinkRecord}
+use Rattle.sw_thin_record.specs.declared.record.LinkState.TheVariants.{Over}
+use Rattle.sw_thin_record.specs.Ends.{Drained}
+use Rattle.sw_thin_record.specs.Right.{Right}
+use Rattle.sw_drill.specs.declared.schedule.Drill.{Drill}
+use Rattle.sw_drill.specs.Draft.{drill_of}
+use Rattle.sw_drill.specs.Steps.{steps_of}
 use Rattle.sw_drill.specs.Print.{record_text}
-use Rattle.sw_settings.specs.declared.pair.Pair.{Pair}
 use Rattle.sw_settings.specs.Faults.{fault_of}
+use Rattle.sw_settings.specs.Values.{values_of}
 use Rattle.sw_settings.specs.Framings.{framing_of}
-use Rattle.sw_laws.specs.Joint.{core_terms}
-use Rattle.sw_world.specs.Steps.{start, run}
-use Rattle.sw_world.specs.Account.{at_end_of}
-use Rattle.sw_world.specs.Played.{Played}
+use Rattle.sw_thin_laws.specs.Joint.{core_terms}
+use Rattle.sw_thin_world.specs.Steps.{start, run}
+use Rattle.sw_thin_world.specs.Account.{at_end_of}
+use Rattle.sw_thin_world.specs.Played.{Played}
 use Rattle.sw_top.specs.declared.status.Status.{Status}
 use Rattle.sw_top.specs.declared.status.Status.TheVariants as statuses
 use Rattle.sw_top.specs.declared.words.Command.{Command}
-use Rattle.sw_top.specs.declared.words.Command.TheVariants.{Drill, Audit}
+use Rattle.sw_top.specs.declared.words.Command.TheVariants.{Drill as DrillCommand, Audit, Settings as SettingsCommand}
 use Rattle.sw_top.specs.Words.{command_of}
-use Rattle.sw_top.specs.Says.{FromSource, FromSink, Meant, IsWritten}
+use Rattle.sw_top.specs.Says.{FromSource, FromSink, IsInput, Meant, IsWritten}
 
--- the text is that of a record that was played by settings without a fault; the record is right, and drained once its link is
--- over
-pub record IsRightText (text : List ℕ) : Type 0 where
-  pub pairs : List Pair
-  pub settled : fault_of pairs ≡ None
-  pub steps : List Step
-  pub printed : text ≡ record_text (Played (framing_of pairs) steps)
-  pub right : Right (core_terms (framing_of pairs)) (Played (framing_of pairs) steps) (at_end_of (run steps (start (framing_of pairs))))
-  pub drained : (at : ℕ) (l : LinkRecord) (e : Ended) → slice_get (Played (framing_of pairs) steps).links at ≡ Some l → l.state ≡ Over e → Drained (core_terms (framing_of pairs)) (Played (framing_of pairs) steps)
+-- the text that a drill prints for an input: the input is a drill whose settings have no fault, the text is that of the
+-- record that its steps lead to, and this record is right, and drained once its link is over
+pub record IsRightText (input text : List ℕ) : Type 0 where
+  pub drill : Drill
+  pub read : drill_of input ≡ Ok drill
+  pub settled : fault_of drill.pairs ≡ None
+  pub printed : text ≡ record_text (Played (framing_of (values_of drill.pairs)) (steps_of drill.lines))
+  pub right : Right (core_terms (framing_of (values_of drill.pairs))) (Played (framing_of (values_of drill.pairs)) (steps_of drill.lines)) (at_end_of (run (steps_of drill.lines) (start (framing_of (values_of drill.pairs)))))
+  pub drained : (at : ℕ) (l : LinkRecord) (e : Ended) → slice_get (Played (framing_of (values_of drill.pairs)) (steps_of drill.lines)).links at ≡ Some l → l.state ≡ Over e → Drained (core_terms (framing_of (values_of drill.pairs))) (Played (framing_of (values_of drill.pairs)) (steps_of drill.lines))
 
--- the text of a drill is such a text
-abbrev pub IsRightFor : Option Command → List ℕ → Type 0
-IsRightFor None text = Unit {0}
-IsRightFor (Some Drill) text = IsRightText text
-IsRightFor (Some Audit) text = Unit {0}
+-- the text of a drill is such a text, of all that the source gave
+abbrev pub IsRightFor : Option Command → FromSource → List ℕ → Type 0
+IsRightFor None s text = Unit {0}
+IsRightFor (Some DrillCommand) s text = (input : List ℕ) × IsInput s input × IsRightText input text
+IsRightFor (Some Audit) s text = Unit {0}
+IsRightFor (Some SettingsCommand) s text = Unit {0}
 
 -- at Ok the text that was meant and written is such a text, if the words name a drill
 abbrev pub PrintsRight : List (List ℕ) → FromSource → FromSink → Status → Type 0
-PrintsRight words s k statuses.Ok = (text : List ℕ) × Meant words s statuses.Ok text × IsRightFor (command_of words) text × IsWritten k text
+PrintsRight words s k statuses.Ok = (text : List ℕ) × Meant words s statuses.Ok text × IsRightFor (command_of words) s text × IsWritten k text
 PrintsRight words s k (statuses.BadLine n) = Unit {0}
 PrintsRight words s k (statuses.Settings fault) = Unit {0}
 PrintsRight words s k statuses.InputLong = Unit {0}

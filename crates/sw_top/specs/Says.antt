@@ -1,21 +1,23 @@
+-- What each status says of what was read and written.
 use Rattle.std.specs.Prelude.{◌≡◌, ℕ, ◌≤◌, ◌<◌, List, codes, length, take, Option, Some, None, Bool, true, Result, Ok, Err, ◌⊎◌}
 use Rattle.std.specs.Prelude.{string_bytes}
 use Rattle.std.specs.Io.KnownBytes.{Consumes, Appends, IsAtEnd}
 use Rattle.sw_causes.specs.Causes.{Rises}
-use Rattle.sw_causes.specs.Whole.{Came, limit}
+use Rattle.sw_causes.specs.Whole.{Came, IsLong, limit}
 use Rattle.sw_audit.specs.declared.verdict.Verdict.TheVariants as verdicts
 use Rattle.sw_audit.specs.declared.verdict.AuditFault.TheVariants as faults
 use Rattle.sw_audit.specs.Verdicts.{IsAudit}
 use Rattle.sw_audit.specs.Printing.{verdict_text}
 use Rattle.sw_top.specs.declared.words.Command.{Command}
-use Rattle.sw_top.specs.declared.words.Command.TheVariants.{Drill as DrillCommand, Audit}
+use Rattle.sw_top.specs.declared.words.Command.TheVariants.{Drill as DrillCommand, Audit, Settings as SettingsCommand}
 use Rattle.sw_top.specs.Words.{command_of}
 use Rattle.sw_top.specs.Answering.{Answers}
 use Rattle.sw_top.specs.declared.refusal.Refusal.{Refusal}
-use Rattle.sw_top.specs.Refusals.{line_text, settings_text}
+use Rattle.sw_top.specs.Refusals.{drill_fault, line_text, settings_text}
 use Rattle.sw_top.specs.declared.refusal.Refusal.TheVariants.{Line, Settings, Place}
 use Rattle.sw_settings.specs.declared.faults.SettingsFault.{SettingsFault}
-use Rattle.sw_settings.specs.Faults.{fault_of}
+use Rattle.sw_settings.specs.declared.values.Values.{Values}
+use Rattle.sw_settings_json.specs.Json.{json_settings}
 use Rattle.sw_drill.specs.declared.schedule.Drill.{Drill}
 use Rattle.sw_drill.specs.Draft.{drill_of}
 use Rattle.sw_top.specs.declared.status.Status.{Status}
@@ -55,7 +57,7 @@ IsAnswered c s r = (input : List ℕ) × IsInput s input × Answers c input r
 abbrev pub Comes : Command → FromSource → Outcome → Type 0
 Comes c s (outcomes.Done text) = IsAnswered c s (Ok (string_bytes text))
 Comes c s (outcomes.Refused refusal) = IsAnswered c s (Err refusal)
-Comes c s outcomes.Long = Came s.left s.left_new (λ n. limit < n)
+Comes c s outcomes.Long = Came s.left s.left_new IsLong
 Comes c s outcomes.Fault = Came s.left s.left_new (λ n. n ≤ limit) × Rises s.faults s.faults_new
 Comes c s outcomes.Memory = Unit {0}
 
@@ -98,7 +100,7 @@ abbrev pub Due : Command → FromSource → Status → List ℕ → Type 0
 Due c s statuses.Ok text = IsAnswered c s (Ok text)
 Due c s (statuses.BadLine n) text = IsAnswered c s (Err (Line n)) × (text ≡ line_text n)
 Due c s (statuses.Settings fault) text = IsAnswered c s (Err (Settings fault)) × (text ≡ settings_text fault)
-Due c s statuses.InputLong text = Came s.left s.left_new (λ n. limit < n) × (text ≡ codes "fault long\n")
+Due c s statuses.InputLong text = Came s.left s.left_new IsLong × (text ≡ codes "fault long\n")
 Due c s (statuses.No at) text = IsAnswered c s (Err (Place at)) × (text ≡ verdict_text (verdicts.No at))
 Due c s statuses.Usage text = ⊥
 Due c s statuses.ReadFault text = Came s.left s.left_new (λ n. n ≤ limit) × Rises s.faults s.faults_new × (text ≡ codes "fault read\n")
@@ -136,7 +138,7 @@ expected_by (Some fault) = statuses.Settings fault
 
 -- the status of a text that was read whole
 abbrev pub expected : Result Drill ℕ → Status
-expected (Ok d) = expected_by (fault_of d.pairs)
+expected (Ok d) = expected_by (drill_fault d.pairs)
 expected (Err n) = statuses.BadLine n
 
 -- the status of a trace that was read whole: that of its verdict, or of its first line out of the grammar
@@ -151,10 +153,16 @@ Judged input statuses.ReadFault = ⊥
 Judged input statuses.WriteFault = ⊥
 Judged input statuses.OutOfMemory = ⊥
 
+-- the status of settings in JSON
+abbrev pub settings_status : Result Values SettingsFault → Status
+settings_status (Ok v) = statuses.Ok
+settings_status (Err fault) = statuses.Settings fault
+
 -- the status that the input alone asks for
 abbrev pub Expected : Command → List ℕ → Status → Type 0
 Expected DrillCommand input status = status ≡ expected (drill_of input)
 Expected Audit input status = Judged input status
+Expected SettingsCommand input status = status ≡ settings_status (json_settings input)
 
 -- without a fault, an input that isn't too long is answered by its text alone, unless memory runs out
 abbrev pub IsComplete : List (List ℕ) → FromSource → FromSink → Status → Type 0

@@ -1,3 +1,4 @@
+-- The numbers of statuses.
 use Rattle.std.specs.Prelude.{ℕ}
 use Rattle.sw_top.specs.declared.status.Status.{Status}
 use Rattle.sw_top.specs.declared.status.Status.TheVariants as statuses

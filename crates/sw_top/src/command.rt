@@ -1,6 +1,6 @@
 //! The command that the words name: the source is read whole, what it says is done, and one text is written.
 
-ghost use Rattle.std.specs.Prelude.{Some};
+ghost use Rattle.std.specs.Prelude.{◌≡◌, Some, None};
 ghost use Rattle.sw_top.specs.Words.{command_of};
 ghost use Rattle.sw_top.specs.Says.{IsOutcome, Comes, Finishes, DoesBy, Said, IsComplete};
 ghost use Rattle.sw_top.specs.Rightly.{PrintsRight};
@@ -86,7 +86,8 @@ fn run<S: Source, K: Sink>(alloc: Global, command: Command, source: &mut S, sink
 }
 
 fn work<S: Source, K: Sink>(alloc: Global, words: &[Word], source: &mut S, sink: &mut K) -> Status
-    ensures { DoesBy (command_of words.now)
+    ensures unread { command_of words.now ≡ None → source.new ≡ source.old }
+    ensures does { DoesBy (command_of words.now)
         (record { left = S.left source.old; left_new = S.left source.new; faults = S.faults source.old; faults_new = S.faults source.new; ended = S.ended source.new })
         (record { taken = K.taken sink.old; taken_new = K.taken sink.new; faults = K.faults sink.old; faults_new = K.faults sink.new }) result }
 {
@@ -108,6 +109,9 @@ pub fn tool<S: Source, K: Sink>(
     source: &mut S,
     sink: &mut K,
 ) -> Status
+    // Where the words name no command nothing is read.
+    ensures unread { command_of words.now ≡ None → source.new ≡ source.old }
+
     // The status has its cause, and what it says was written.
     ensures says { Said words.now (record { left = S.left source.old; left_new = S.left source.new; faults = S.faults source.old; faults_new = S.faults source.new; ended = S.ended source.new }) (record { taken = K.taken sink.old; taken_new = K.taken sink.new; faults = K.faults sink.old; faults_new = K.faults sink.new }) result }
 

@@ -3,13 +3,18 @@
 #![tactic(auto)]
 
 mod answering;
+mod auditing;
 mod command;
+mod drilling;
+mod line;
 mod playing;
 mod refusal;
+mod showing;
 mod status;
 mod word;
 mod words;
 
 pub use command::tool;
+pub use line::command_line;
 pub use status::Status;
 pub use word::Word;

@@ -1,33 +1,33 @@
 //! A schedule is played: each line's steps are taken by the core, and the record of what happened is printed.
 
 ghost use Rattle.std.specs.Prelude.{◌≡◌, ℕ, ◌<◌, ◌≤◌, length, replicate, OnOk, IfOk, string_bytes};
-ghost use Rattle.sw_record.specs.declared.step.Step.TheVariants.{Turn};
+ghost use Rattle.sw_thin_record.specs.declared.step.Step.TheVariants.{Turn};
 ghost use Rattle.sw_drill.specs.Steps.{round, rounds, steps_of_line, steps_of};
 ghost use Rattle.sw_top.specs.Run.{stepped, played, fresh, account_text, drill_text};
 
 use std::alloc::Global;
 use sw_base::OutOfMemory;
 use sw_drill::{Line, Lines, print};
-use sw_record::{ActorId, Step};
 use sw_settings::Settings;
-use sw_world::World;
+use sw_thin_record::{ActorId, Step};
+use sw_thin_world::World;
 
 #[tactic(auto, unfolding(crate::specs::Run::fresh))]
 fn make(alloc: Global, settings: &Settings) -> Result<World, OutOfMemory>
-    ensures { IfOk result (λ w. w ≡ fresh settings.now) }
+    ensures { IfOk result (λ w. w.state ≡ fresh settings.now) }
 {
     World::make(alloc, settings)
 }
 
 #[tactic(auto, unfolding(crate::specs::Run::stepped))]
 fn step(world: &mut World, step: Step) -> Result<(), OutOfMemory>
-    ensures { OnOk result (world.new ≡ stepped step world.old) }
+    ensures { OnOk result (world.new.state ≡ stepped step world.old.state) }
 {
     world.step(step)
 }
 
 fn turns(world: &mut World, actor: ActorId, n: u64) -> Result<(), OutOfMemory>
-    ensures { OnOk result (world.new ≡ played (replicate n (Turn actor)) world.old) }
+    ensures { OnOk result (world.new.state ≡ played (replicate n (Turn actor)) world.old.state) }
 {
     for _ in 0..n {
         step(world, Step::Turn(actor))?;
@@ -37,7 +37,7 @@ fn turns(world: &mut World, actor: ActorId, n: u64) -> Result<(), OutOfMemory>
 
 #[tactic(auto, unfolding(crate::specs::Run::played))]
 fn round(world: &mut World) -> Result<(), OutOfMemory>
-    ensures { OnOk result (world.new ≡ played round world.old) }
+    ensures { OnOk result (world.new.state ≡ played round world.old.state) }
 {
     step(world, Step::Turn(ActorId::Door))?;
     step(world, Step::Turn(ActorId::Reactor(0)))?;
@@ -45,7 +45,7 @@ fn round(world: &mut World) -> Result<(), OutOfMemory>
 }
 
 fn rounds(world: &mut World, n: u64) -> Result<(), OutOfMemory>
-    ensures { OnOk result (world.new ≡ played (rounds n) world.old) }
+    ensures { OnOk result (world.new.state ≡ played (rounds n) world.old.state) }
 {
     for _ in 0..n {
         round(world)?;
@@ -55,7 +55,7 @@ fn rounds(world: &mut World, n: u64) -> Result<(), OutOfMemory>
 
 #[tactic(auto, unfolding(crate::specs::Run::played))]
 fn play_line(world: &mut World, line: Line) -> Result<(), OutOfMemory>
-    ensures { OnOk result (world.new ≡ played (steps_of_line line) world.old) }
+    ensures { OnOk result (world.new.state ≡ played (steps_of_line line) world.old.state) }
 {
     match line {
         Line::Step(one) => step(world, one),
@@ -65,7 +65,7 @@ fn play_line(world: &mut World, line: Line) -> Result<(), OutOfMemory>
 }
 
 fn play(world: &mut World, lines: Lines) -> Result<(), OutOfMemory>
-    ensures { OnOk result (world.new ≡ played (steps_of lines) world.old) }
+    ensures { OnOk result (world.new.state ≡ played (steps_of lines) world.old.state) }
 {
     for line in lines.into_vec() {
         play_line(world, line)?;
@@ -75,7 +75,7 @@ fn play(world: &mut World, lines: Lines) -> Result<(), OutOfMemory>
 
 #[tactic(auto, unfolding(crate::specs::Run::account_text))]
 fn account(alloc: Global, world: &World) -> Result<String, OutOfMemory>
-    ensures { IfOk result (λ text. string_bytes text ≡ account_text world.now) }
+    ensures { IfOk result (λ text. string_bytes text ≡ account_text world.now.state) }
 {
     let so_far = world.account()?;
     print(alloc, &so_far)

@@ -2,16 +2,28 @@
 
 ghost use Rattle.std.specs.Prelude.{◌≡◌, ◌++◌, List, codes, IfOk, OnOk, string_bytes};
 ghost use Rattle.std.specs.Fmt.{decimal};
+ghost use Rattle.sw_text.specs.Hex.{hex};
 ghost use Rattle.sw_audit.specs.declared.verdict.Verdict.TheVariants as verdicts;
 ghost use Rattle.sw_audit.specs.Printing.{verdict_text};
-ghost use Rattle.sw_top.specs.Refusals.{key_text, reason_text, settings_text, line_text, refusal_text, refusal_status};
+ghost use Rattle.sw_top.specs.Refusals.{column_word, is_memory, key_text, reason_text, settings_text, line_text, refusal_text, refusal_status};
 
 use crate::status::Status;
 use std::alloc::Global;
 use sw_audit::{Verdict, print};
 use sw_base::{Octets, OutOfMemory};
+use sw_column::ColumnFault;
 use sw_settings::SettingsFault;
 use sw_text::{put_hex, put_number};
+
+/// Whether settings were refused for want of memory.
+pub fn is_memory(fault: &SettingsFault) -> bool
+    ensures { result ≡ is_memory fault.now }
+{
+    match fault {
+        SettingsFault::OutOfMemory => true,
+        _ => false,
+    }
+}
 
 /// Why an input that was read whole is refused.
 #[derive(Drop)]
@@ -31,12 +43,39 @@ fn put_key(out: &mut Octets, word: &str, key: &[u8]) -> Result<(), OutOfMemory>
     out.extend(key)
 }
 
-fn put_unknown(alloc: Global, out: &mut Octets, key: &[u8]) -> Result<(), OutOfMemory>
-    ensures { OnOk result (out.new ≡ out.old ++ reason_text (SettingsFault.Unknown key.now)) }
+/// A word, and the bytes of a name behind it as hexadecimal digits.
+fn put_name(alloc: Global, out: &mut Octets, word: &str, name: &[u8]) -> Result<(), OutOfMemory>
+    ensures { OnOk result (out.new ≡ out.old ++ key_text word.now (hex name.now)) }
 {
     let mut digits = String::new(alloc);
-    put_hex(&mut digits, key)?;
-    put_key(out, "unknown x", digits.as_bytes())
+    put_hex(&mut digits, name)?;
+    put_key(out, word, digits.as_bytes())
+}
+
+/// The word for what is wrong with a column.
+fn column_word(fault: ColumnFault) -> &'static str
+    ensures { result.now ≡ column_word fault }
+{
+    match fault {
+        ColumnFault::TooMany => "toomany",
+        ColumnFault::BadName => "badname",
+        ColumnFault::Twice => "twice",
+        ColumnFault::Float => "float",
+        ColumnFault::BadSize => "badsize",
+        ColumnFault::OutOfMemory => "memory",
+    }
+}
+
+fn put_column(
+    alloc: Global,
+    out: &mut Octets,
+    name: &[u8],
+    fault: ColumnFault,
+) -> Result<(), OutOfMemory>
+    ensures { OnOk result (out.new ≡ out.old ++ reason_text (SettingsFault.Column name.now fault)) }
+{
+    put_name(alloc, out, "column x", name)?;
+    put_key(out, " ", column_word(fault).as_bytes())
 }
 
 fn put_number_behind(alloc: Global, out: &mut Octets, number: u64) -> Result<(), OutOfMemory>
@@ -72,13 +111,15 @@ fn put_reason(alloc: Global, out: &mut Octets, fault: &SettingsFault) -> Result<
     ensures { OnOk result (out.new ≡ out.old ++ reason_text fault.now) }
 {
     match fault {
-        SettingsFault::Unknown(key) => put_unknown(alloc, out, key.bytes()),
+        SettingsFault::NotJson => out.extend(b"notjson"),
+        SettingsFault::Unknown(key) => put_name(alloc, out, "unknown x", key.bytes()),
         SettingsFault::BadType(key) => put_key(out, "type ", key.bytes()),
         SettingsFault::Range(key, least, most) => {
             put_range(alloc, out, key.bytes(), *least, *most)
         }
         SettingsFault::Missing(key) => put_key(out, "missing ", key.bytes()),
         SettingsFault::Conflict(key, other) => put_conflict(out, key.bytes(), other.bytes()),
+        SettingsFault::Column(name, fault) => put_column(alloc, out, name.bytes(), *fault),
         SettingsFault::OutOfMemory => Ok(()),
     }
 }

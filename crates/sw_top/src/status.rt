@@ -1,3 +1,5 @@
+//! How a command ended.
+
 ghost use Rattle.std.specs.Prelude.{◌≡◌};
 ghost use Rattle.sw_top.specs.Statuses.{status_number};
 

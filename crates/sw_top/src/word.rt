@@ -1,3 +1,5 @@
+//! A word of the command line.
+
 use std::marker::Model;
 
 /// A word of the command line.

@@ -13,6 +13,8 @@ pub enum Command {
     Drill,
     /// A trace of the Table's calls is judged.
     Audit,
+    /// Settings in JSON are printed, each key with its value.
+    Settings,
 }
 
 fn named(word: &[u8]) -> Option<Command>
@@ -22,6 +24,8 @@ fn named(word: &[u8]) -> Option<Command>
         Some(Command::Drill)
     } else if is(word, "audit") {
         Some(Command::Audit)
+    } else if is(word, "settings") {
+        Some(Command::Settings)
     } else {
         None
     }

@@ -8,6 +8,6 @@ invariant-loop g l = record {
   came : Consumes (g.S.Source.left l.fn.source) (g.S.Source.left l.source) l.bytes.items;
   count : l.counter ≤ length l.bytes.items;
   within : length l.bytes.items ≤ limit;
-  faults : g.S.Source.faults l.fn.source ≤ g.S.Source.faults l.source;
+  faults : g.S.Source.faults l.source ≡ g.S.Source.faults l.fn.source;
   buf : length l.buf ≡ 16384;
 }

@@ -4,4 +4,4 @@ use Rattle.sw_top.specs.Run.{played}
 use Rattle.sw_top.proofs.playing.play.Given as goal
 
 abbrev pub invariant-loop-line : goal.invariant-loop-line
-invariant-loop-line l = l.world ≡ played (steps_of l.yielded) l.fn.world
+invariant-loop-line l = l.world.state ≡ played (steps_of l.yielded) l.fn.world.state

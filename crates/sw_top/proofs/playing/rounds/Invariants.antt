@@ -4,4 +4,4 @@ use Rattle.sw_top.specs.Run.{played}
 use Rattle.sw_top.proofs.playing.rounds.Given as goal
 
 abbrev pub invariant-loop : goal.invariant-loop
-invariant-loop l = l.world ≡ played (rounds l.counter) l.fn.world
+invariant-loop l = l.world.state ≡ played (rounds l.counter) l.fn.world.state

@@ -1,15 +1,24 @@
-use Rattle.std.proofs.Common.{refl}
-use Rattle.sw_frame.proofs.Keeping.{Pushed, IsKept-pushed, fed_pieces-pushed}
+use Rattle.std.proofs.Common.{inl, inr}
+use Rattle.sw_frame.specs.declared.framing.Framing.TheVariants.{Eof, Length}
+use Rattle.sw_frame.specs.Kept.{IsKept}
+use Rattle.sw_frame.proofs.Keeping.{ok_or_err}
+use Rattle.sw_frame.proofs.Searched.{IsKept-mark, IsKept-length}
 use Rattle.sw_frame.proofs.cutter.Cutter.feed.Goals as goal
 
-pub invariant_of-self-2 : goal.invariant_of-self-2
-invariant_of-self-2 c =
-    let e = c.in_ok-push.ensures in
-    let pushed : Pushed c.self.inside.fed c.push.new.self c.args.piece.now = record { bytes = e.bytes; lens = e.lens; at = e.at; passed = e.passed; given = e.given } in
-    IsKept-pushed c.self.inside.framing _ _ _ pushed c.self.invariant
+pub invariant_of-self-in-Eof : goal.invariant_of-self-in-Eof
+invariant_of-self-in-Eof c =
+    elim (ok_or_err c.push_bytes.result c.push_bytes.ensures.ok c.push_bytes.ensures.err) [
+      | inl pushed ↦
+          let kept : IsKept (Eof c.in-Eof.field-0 c.in-Eof.field-1) c.self.inside.kept = rw c.in-Eof.is at c.self.invariant in
+          rw c.in-Eof.is (IsKept-mark c.in-Eof.field-0 c.in-Eof.field-1 _ _ _ pushed kept)
+      | inr same ↦ rw same c.self.invariant
+    ]
 
-pub returns-clause-ok : goal.returns-clause-ok
-returns-clause-ok c =
-    let e = c.in_ok-push.ensures in
-    let pushed : Pushed c.self.inside.fed c.push.new.self c.args.piece.now = record { bytes = e.bytes; lens = e.lens; at = e.at; passed = e.passed; given = e.given } in
-    rw (← c.self.view_is, fed_pieces-pushed c.self.inside.fed c.push.new.self c.args.piece.now pushed c.self.invariant.whole, e.given) refl
+pub invariant_of-self-in-Length : goal.invariant_of-self-in-Length
+invariant_of-self-in-Length c =
+    elim (ok_or_err c.push_bytes-in-Length.result c.push_bytes-in-Length.ensures.ok c.push_bytes-in-Length.ensures.err) [
+      | inl pushed ↦
+          let kept : IsKept (Length c.in-Length.field-0) c.self.inside.kept = rw c.in-Length.is at c.self.invariant in
+          rw c.in-Length.is (IsKept-length c.in-Length.field-0 _ _ _ pushed kept)
+      | inr same ↦ rw same c.self.invariant
+    ]

@@ -1,0 +1,7 @@
+mod Logs
+mod Orders
+mod Causes
+mod Sessions
+mod Bytes
+mod Ends
+mod Rightly
