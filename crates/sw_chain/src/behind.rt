@@ -1,8 +1,9 @@
 //! Changing the boxed rows behind the head of a bucket.
-ghost use Rattle.std.specs.Prelude.{◌≡◌, ◌<◌, ◌∷◌, [], length, remove, slice_get, IsTrue, IfSome, IfNone};
+ghost use Rattle.std.specs.Prelude.{◌≡◌, ◌<◌, ◌∷◌, [], length, take, remove, slice_get, IsTrue, IfSome, IfNone};
 ghost use Rattle.sw_base.specs.declared.table.Value.TheVariants as values;
+ghost use Rattle.sw_column.specs.declared.column.Kind.TheVariants as kinds;
 ghost use Rattle.sw_column.specs.Values.{HasKinds, holds};
-ghost use Rattle.sw_row.specs.Layout.{kept, offset_of};
+ghost use Rattle.sw_row.specs.Layout.{kept, offset_of, column_size};
 ghost use Rattle.sw_chain.specs.Rows.{with_values, with_value};
 
 use crate::parted::{Parted, join, part};
@@ -80,6 +81,25 @@ pub fn set_number_behind(
         None => unreachable!(),
         Some(mut row) => {
             row.set_number(schema, column, offset, n);
+            head.set_next(join(before, Some(row)));
+        }
+    }
+}
+
+/// Writes a text into a column of a row behind the head, cut at the column's size.
+pub fn set_text_behind(head: &mut Row, at: u32, schema: &Schema, column: usize, offset: usize, text: &[u8])
+    requires place { at < length head.old.behind }
+    requires packed { IfSome (slice_get head.old.behind at) (λ r. r.columns ≡ schema.now) }
+    requires column { column < length schema.now }
+    requires kind { IfSome (slice_get schema.now column) (λ c. c.kind ≡ kinds.Text) }
+    requires offset { offset ≡ offset_of schema.now column }
+    ensures { head.new ≡ record head.old { behind = with_value head.old.behind at column (values.Text (take (column_size (slice_get schema.now column)) text.now)) } }
+{
+    let Parted { before, rest } = part(head.set_next(None), at);
+    match rest {
+        None => unreachable!(),
+        Some(mut row) => {
+            row.set_text(schema, column, offset, text);
             head.set_next(join(before, Some(row)));
         }
     }

@@ -1,12 +1,12 @@
 //! A bucket: the head in place, and boxed rows behind it.
-ghost use Rattle.std.specs.Prelude.{◌≡◌, ◌<◌, ◌≤◌, ◌∷◌, [], length, remove, slice_get, Some, None, IsSome, IsTrue, IfSome, IfNone};
+ghost use Rattle.std.specs.Prelude.{◌≡◌, ◌<◌, ◌≤◌, ◌∷◌, [], length, remove, take, slice_get, Some, None, IsSome, IsTrue, IfSome, IfNone};
 ghost use Rattle.sw_base.specs.declared.table.Value.TheVariants as values;
 ghost use Rattle.sw_column.specs.declared.column.Kind.TheVariants as kinds;
 ghost use Rattle.sw_column.specs.Values.{HasKinds, holds};
-ghost use Rattle.sw_row.specs.Layout.{kept, offset_of};
+ghost use Rattle.sw_row.specs.Layout.{kept, offset_of, column_size};
 ghost use Rattle.sw_chain.specs.Rows.{found, without, with_second, with_values, with_value};
 
-use crate::behind::{rewrite_behind, set_number_behind, take_behind, take_first};
+use crate::behind::{rewrite_behind, set_number_behind, set_text_behind, take_behind, take_first};
 use crate::walk::{find_from, row_at};
 use std::marker::Model;
 use sw_column::{RowBuf, Schema};
@@ -165,6 +165,22 @@ impl Chain {
             self.head.set_number(schema, column, offset, n);
         } else {
             set_number_behind(&mut self.head, at - 1, schema, column, offset, n);
+        }
+    }
+
+    /// Writes a text into a column of a row, in place, cut at the column's size: nothing else is read or written.
+    pub fn set_text(&mut self, at: u32, schema: &Schema, column: usize, offset: usize, text: &[u8])
+        requires place { at < length self.old }
+        requires packed { IfSome (slice_get self.old at) (λ r. r.columns ≡ schema.now) }
+        requires column { column < length schema.now }
+        requires kind { IfSome (slice_get schema.now column) (λ c. c.kind ≡ kinds.Text) }
+        requires offset { offset ≡ offset_of schema.now column }
+        ensures { self.new ≡ with_value self.old at column (values.Text (take (column_size (slice_get schema.now column)) text.now)) }
+    {
+        if at == 0 {
+            self.head.set_text(schema, column, offset, text);
+        } else {
+            set_text_behind(&mut self.head, at - 1, schema, column, offset, text);
         }
     }
 }

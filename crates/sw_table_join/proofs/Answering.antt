@@ -1,33 +1,28 @@
 -- What the locks tell of a draw, said of the Table: places, replies and refusals.
-use Rattle.std.proofs.Common.{◌≡◌, ◌≢◌, ℕ, zero, suc, ◌+◌, ◌-◌, ◌*◌, ◌/◌, ◌<◌, ◌≤◌, Bool, true, false, List, [], ◌∷◌, ◌++◌, length, slice_get, length-append, Option, Some, None, MatchOption, refl, ap, sym, ◌∙◌, subst, arith}
-use Rattle.std.proofs.Math.Nat.{mod-lt}
+use Rattle.std.proofs.Common.{◌≡◌, ℕ, zero, suc, ◌+◌, ◌-◌, ◌*◌, ◌<◌, ◌≤◌, true, List, [], ◌∷◌, ◌++◌, length, slice_get, Option, Some, None, MatchOption, ap, sym, ◌∙◌, subst, arith}
 use native.Mathlib.Decide.{ℕ_discrete}
 use mathlib.Core.Logic.{dite}
 use Rattle.std.specs.FinMap as fin
 use Rattle.sw_base.specs.declared.table.Value.{Value}
 use Rattle.sw_base.specs.declared.table.Reply.{Reply}
 use Rattle.sw_base.specs.declared.table.Call.{Call}
-use Rattle.sw_base.specs.declared.table.CallFault.{CallFault}
-use Rattle.sw_column.specs.Hash.{hash}
 use Rattle.sw_column.specs.Fit.{call_fault}
-use Rattle.sw_table_laws.specs.Table.{State, Shape, Legal, TStep, after, bucket, part, used, sum_below, shown, shown_for, needs_pool}
+use Rattle.sw_table_laws.specs.Table.{State, Shape, TStep, bucket, part, used, sum_below, shown_for}
 use Rattle.sw_table_laws.specs.Buckets.{BucketNow, PoolNow, asks_pool}
 use Rattle.sw_table_laws.specs.Laws.{key_of}
-use Rattle.sw_table_laws.specs.Sizes.{pool_of}
 use Rattle.sw_table_laws.proofs.BucketLaws.{rows_bounded}
 use Rattle.sw_table_laws.proofs.BucketSteps.{bucket_is_enough}
 use Rattle.sw_rowlock.specs.declared.calls.Contents.{Contents}
-use Rattle.sw_rowlock.specs.declared.locks.DrawFault.TheVariants.{Moved, Spent}
-use Rattle.sw_rowlock.specs.History.{calls, others, Begins, AllBegin, Each, draws_of, times_drawn}
+use Rattle.sw_rowlock.specs.History.{calls, others, Begins, Each, draws_of, times_drawn}
 use Rattle.sw_rowlock.specs.Calls as locks
 use Rattle.sw_rowlock.specs.Calls.{done, bucket_for}
-use Rattle.sw_rowlock.specs.Seats.{SeatNow, done_on, pool_number, sequence_number}
-use Rattle.sw_rowlock.specs.Told.{RowLeft, LookedAt, DrewAt}
+use Rattle.sw_rowlock.specs.Seats.{done_on, pool_number, sequence_number}
+use Rattle.sw_rowlock.specs.Told.{RowLeft, DrewAt}
 use Rattle.sw_rowlock.specs.Faults.{SpentAt, MovedAt}
 use Rattle.sw_rowlock.proofs.Histories.{calls_look, each_all}
 use Rattle.sw_table_join.specs.declared.table_call.TableCall.{TableCall}
-use Rattle.sw_table_join.specs.Calls.{Answer, bucket_at, call_row, call_asks, call_does, IsFor}
-use Rattle.sw_table_join.specs.Histories.{history, Starts, Mirrors}
+use Rattle.sw_table_join.specs.Calls.{Answer, call_row, call_asks, call_does, IsFor}
+use Rattle.sw_table_join.specs.Histories.{history}
 use Rattle.sw_table_join.specs.Laws.{IsHistory}
 use Rattle.sw_table_join.specs.Following.{AnswersFollow, RefusalsFollow, BucketsFollow, PoolsFollow}
 use Rattle.sw_table_join.specs.Tables.{SharedNow, SeatView, IsShared, shape_of, call_on, rows_after}
