@@ -1,6 +1,7 @@
 -- Each step keeps the rule of a pipe's counter.
 use Rattle.std.proofs.Common.{◌≡◌, ◌≢◌, ◌<◌, ◌≤◌, ◌+◌, ◌-◌, ◌%◌, ◌^◌, ℕ, zero, suc, eqb, eq-eqb, ne_eqb, add-one, List, [], ◌∷◌, ◌++◌, set, max, sym, refl, ap, ◌∙◌, subst, ⊎_elim, le_trans, le_refl, replicate, slice_index, slice_set, arith}
-use Rattle.std.proofs.lemmas.List.{get_or-set_other, get_or-set_same, set-get_or, length-set, length-replicate}
+use Rattle.std.proofs.Math.Nat.{mod-le}
+use Rattle.std.proofs.lemmas.List.{get_or-set_other, set-get_or}
 use mathlib.Core.Option.{some, some-injective, some-ne-none}
 use mathlib.Core.Logic.{dite}
 use native.Mathlib.Decide.{ℕ_discrete}
@@ -9,7 +10,7 @@ use Rattle.atomic_table.specs.Table.{State, Me, keeps, Allows, Splits, Joins, op
 use Rattle.atomic_table.proofs.Lists.{at_set, at_snoc, set_else}
 use Rattle.sw_pipe.specs.declared.tally.Tally.{Tally}
 use Rattle.sw_pipe.specs.Rule.{one_if}
-use Rattle.sw_pipe.specs.Tallies.{tally, joined, word_of, most, total, sum_below, Counted}
+use Rattle.sw_pipe.specs.Tallies.{tally, joined, word_of, total, sum_below, Counted}
 
 total_set : (f : Tally → ℕ) (views : List Tally) (j : ℕ) (v w : Tally) → get_elem? views j ≡ some v → total f (set views j w) + f v ≡ total f views + f w
 total_set f [] j v w e = absurd (some-ne-none v (sym e))
@@ -24,11 +25,6 @@ part_of : (views : List Tally) (j : ℕ) (v : Tally) → get_elem? views j ≡ s
 part_of [] j v at = absurd (some-ne-none v (sym at))
 part_of (x ∷ xs) zero v at = let p : x.parts ≡ v.parts = ap (λ (u : Tally). u.parts) (some-injective x v at) in omega (arith, p)
 part_of (x ∷ xs) (suc j) v at = let p = part_of xs j v at in omega (arith, p)
-
--- together the shares counted no more than their parts allow
-total_within : (views : List Tally) → ((j : ℕ) (v : Tally) → get_elem? views j ≡ some v → v.count ≤ most * v.parts) → total (λ u. u.count) views ≤ most * total (λ u. u.parts) views
-total_within [] h = omega arith
-total_within (x ∷ xs) h = let a = h zero x refl in let b = total_within xs (λ j v at. h (suc j) v at) in omega (arith, a, b)
 
 none_counted : (views : List Tally) → ((j : ℕ) (v : Tally) → get_elem? views j ≡ some v → v.parts ≡ 0 → v.count ≡ 0) → total (λ u. u.parts) views ≡ 0 → total (λ u. u.count) views ≡ 0
 none_counted [] idle e = refl
@@ -60,13 +56,6 @@ sum_none : (n : ℕ) → sum_below n (λ _. 0) ≡ 0
 sum_none zero = refl
 sum_none (suc n) = let s = sum_none n in omega (arith, s)
 
--- one of the numbers that are added up
-one_below : (n q : ℕ) (counts : ℕ → ℕ) → q < n → counts q ≤ sum_below n counts
-one_below zero q counts lt = absurd (omega (arith, lt))
-one_below (suc n) q counts lt = dite (ℕ_discrete q n)
-    (λ is. let e : counts q ≡ counts n = ap counts is in omega (arith, e))
-    (λ other. let s = one_below n q counts (omega (arith, lt, other)) in omega (arith, s))
-
 -- one more at the place q
 abbrev bumped : (ℕ → ℕ) → ℕ → ℕ → ℕ
 bumped counts q p = counts p + one_if (eqb p q)
@@ -88,36 +77,38 @@ sum_one (suc n) q counts = dite (ℕ_discrete n q)
     (λ is. let s = sum_same n q counts (omega (arith, is)) in let t = bumped_here counts q n is in omega (arith, s, t))
     (λ other. let s = sum_one n q counts in let t = bumped_else counts q n other in omega (arith, s, t))
 
+at_most : (words : List ℕ) (i n : ℕ) → slice_index (slice_set words i n) i ≤ n
+at_most [] i n = omega arith
+at_most (x ∷ xs) zero n = le_refl n
+at_most (x ∷ xs) (suc i) n = at_most xs i n
+
 -- a sender's word becomes n
-words_set : (words : List ℕ) (counts counts' : ℕ → ℕ) (k q n : ℕ) → length words ≡ 16 * k → q < k → ((p : ℕ) → p < k → slice_index words (word_of p) ≡ counts p) → ((p : ℕ) → p ≢ q → counts p ≡ counts' p) → n ≡ counts' q
-    → (p : ℕ) → p < k → slice_index (slice_set words (word_of q) n) (word_of p) ≡ counts' p
-words_set words counts counts' k q n long lt h same is p below = dite (ℕ_discrete p q)
-    (λ e. let room : word_of q < length words = omega (arith, long, lt) in
-    subst (λ (i : ℕ). slice_index (slice_set words (word_of q) n) (word_of i) ≡ counts' i) (sym e) (get_or-set_same words (word_of q) n 0 room ∙ is))
-    (λ other. get_or-set_other words (word_of q) (word_of p) n 0 (λ e. other (omega (arith, e))) ∙ h p below ∙ same p other)
+words_set : (words : List ℕ) (counts counts' : ℕ → ℕ) (q n : ℕ) → ((p : ℕ) → slice_index words (word_of p) ≤ counts p) → ((p : ℕ) → counts p ≤ counts' p) → n ≤ counts' q
+    → (p : ℕ) → slice_index (slice_set words (word_of q) n) (word_of p) ≤ counts' p
+words_set words counts counts' q n h up le p = dite (ℕ_discrete p q)
+    (λ is. subst (λ (k : ℕ). slice_index (slice_set words (word_of q) n) (word_of k) ≤ counts' k) (sym is) (le_trans (at_most words (word_of q) n) le))
+    (λ other. subst (λ (k : ℕ). k ≤ counts' p) (sym (get_or-set_other words (word_of q) (word_of p) n 0 (λ e. other (omega (arith, e))))) (le_trans (h p) (up p)))
 
 -- a word that was read is as it was
-words_read : (words : List ℕ) (counts : ℕ → ℕ) (k i : ℕ) → ((p : ℕ) → p < k → slice_index words (word_of p) ≡ counts p) → (p : ℕ) → p < k → slice_index (slice_set words i (slice_index words i)) (word_of p) ≡ counts p
-words_read words counts k i h p below = subst (λ (l : List ℕ). slice_index l (word_of p) ≡ counts p) (sym (set-get_or words i 0)) (h p below)
+words_read : (words : List ℕ) (counts : ℕ → ℕ) (i : ℕ) → ((p : ℕ) → slice_index words (word_of p) ≤ counts p) → (p : ℕ) → slice_index (slice_set words i (slice_index words i)) (word_of p) ≤ counts p
+words_read words counts i h p = subst (λ (l : List ℕ). slice_index l (word_of p) ≤ counts p) (sym (set-get_or words i 0)) (h p)
 
-zeros : (k i : ℕ) → slice_index (replicate k 0) i ≡ 0
-zeros zero i = refl
-zeros (suc k) zero = refl
+zeros : (k i : ℕ) → slice_index (replicate k 0) i ≤ 0
+zeros zero i = le_refl 0
+zeros (suc k) zero = le_refl 0
 zeros (suc k) (suc i) = zeros k i
 
 module _ {S : Type 0} where
   -- a share's view becomes w, the words these, and what the senders counted at least as much as before
   steps : (n : ℕ) (s : State S Tally) (id : ℕ) (v w : Tally) (words : List ℕ) (counts : ℕ → ℕ) (h : Counted n s) → get_elem? s.views id ≡ some v → w.parts ≡ v.parts → (w.parts ≡ 0 → w.count ≡ 0)
-      → w.count ≤ most * w.parts → length words ≡ 16 * n → ((p : ℕ) → h.counts p ≤ counts p) → ((p : ℕ) → p < n → slice_index words (word_of p) ≡ counts p) → sum_below n counts + v.count ≤ total (λ u. u.count) s.views + w.count → (w.at ≤ n) × (w.seen ≤ sum_below w.at counts)
+      → ((p : ℕ) → h.counts p ≤ counts p) → ((p : ℕ) → slice_index words (word_of p) ≤ counts p) → sum_below n counts + v.count ≤ total (λ u. u.count) s.views + w.count → (w.at ≤ n) × (w.seen ≤ sum_below w.at counts)
       → Counted n record { words = words; homes = s.homes; views = set s.views id w }
-  steps n s id v w words counts h at same rests fits long up low few sees_it =
+  steps n s id v w words counts h at same rests up low few sees_it =
       let p = total_set (λ u. u.parts) s.views id v w at in
       let c = total_set (λ u. u.count) s.views id v w at in
       record {
         counts = counts;
-        long = long;
         words = low;
-        within = λ j u e. ⊎_elim (λ (t : (j ≡ id) × (w ≡ u)). subst (λ (y : Tally). y.count ≤ most * y.parts) t.1 fits) (λ (t : (j ≢ id) × (get_elem? s.views j ≡ some u)). h.within j u t.1) (at_set s.views id j w u e);
         whole = omega (arith, few, c);
         parts = let q = h.parts in omega (arith, p, q, same);
         idle = λ j u e z. ⊎_elim (λ (t : (j ≡ id) × (w ≡ u)). subst (λ (y : Tally). y.parts ≡ 0 → y.count ≡ 0) t.1 rests z) (λ (t : (j ≢ id) × (get_elem? s.views j ≡ some u)). h.idle j u t.1 z) (at_set s.views id j w u e);
@@ -125,36 +116,34 @@ module _ {S : Type 0} where
             (λ (t : (j ≢ id) × (get_elem? s.views j ≡ some u)). let old = h.seen j u t.1 in (old.0, le_trans old.1 (sum_larger u.at h.counts counts up))) (at_set s.views id j w u e);
       }
 
-  adds : (n slots id q : ℕ) (me : Me S Tally) → 0 < me.0.parts → n ≤ most → q < n → me.0.count < most * me.0.parts
+  adds : (n slots id q : ℕ) (me : Me S Tally) → 0 < me.0.parts
       → Allows (Counted n) slots id me (word_of q) (λ r. (r + 1) % 2 ^ 64) (λ r k. k ≡ (tally me.0.parts (me.0.count + 1) me.0.at me.0.seen, me.1))
-  adds n slots id q me some_part few lt room s h _ at _ =
+  adds n slots id q me some_part s h _ at _ =
       let v = me.0 in let w : Tally = tally v.parts (v.count + 1) v.at v.seen in
       let r : ℕ = slice_index s.words (word_of q) in
       let counts : ℕ → ℕ = bumped h.counts q in
       let up : (p : ℕ) → h.counts p ≤ counts p = λ p. omega arith in
-      let all : total (λ u. u.count) s.views ≤ most * n = let t = total_within s.views h.within in let q = h.parts in omega (arith, t, q) in
-      let small : r + 1 < 2 ^ 64 = let b = h.words q lt in let o = one_below n q h.counts lt in let w = h.whole in omega (arith, b, o, w, all, few) in
-      let low : (r + 1) % 2 ^ 64 ≡ counts q = let b = h.words q lt in let o = bumped_here h.counts q q refl in let m : (r + 1) % 2 ^ 64 ≡ r + 1 = omega (arith, small) in omega (arith, m, b, o) in
+      let low : (r + 1) % 2 ^ 64 ≤ counts q = let m = mod-le (r + 1) (2 ^ 64) in let b = h.words q in let o = bumped_here h.counts q q refl in omega (arith, m, b, o) in
       let old = h.seen id v at in (
         w,
         keeps,
         tt,
-        steps n s id v w (slice_set s.words (word_of q) ((r + 1) % 2 ^ 64)) counts h at refl (λ z. absurd (omega (arith, z, some_part))) (omega (arith, room)) (length-set s.words (word_of q) ((r + 1) % 2 ^ 64) ∙ h.long) up
-            (words_set s.words h.counts counts n q ((r + 1) % 2 ^ 64) h.long lt h.words (λ p other. let e = bumped_else h.counts q p other in omega (arith, e)) low) (let o = sum_one n q h.counts in let b = h.whole in omega (arith, o, b))
+        steps n s id v w (slice_set s.words (word_of q) ((r + 1) % 2 ^ 64)) counts h at refl (λ z. absurd (omega (arith, z, some_part))) up
+            (words_set s.words h.counts counts q ((r + 1) % 2 ^ 64) h.words up low) (let o = sum_one n q h.counts in let b = h.whole in omega (arith, o, b))
             (old.0, le_trans old.1 (sum_larger v.at h.counts counts up)),
         refl,
       )
 
-  pub adds_at : (n slots id q i : ℕ) (me : Me S Tally) → i ≡ word_of q → 0 < me.0.parts → n ≤ most → q < n → me.0.count < most * me.0.parts
+  pub adds_at : (n slots id q i : ℕ) (me : Me S Tally) → i ≡ word_of q → 0 < me.0.parts
       → Allows (Counted n) slots id me i (λ r. (r + 1) % 2 ^ 64) (λ r k. k ≡ (tally me.0.parts (me.0.count + 1) me.0.at me.0.seen, me.1))
-  adds_at n slots id q i me e some_part few lt room =
-      subst (λ (j : ℕ). Allows (Counted n) slots id me j (λ r. (r + 1) % 2 ^ 64) (λ r k. k ≡ (tally me.0.parts (me.0.count + 1) me.0.at me.0.seen, me.1))) (sym e) (adds n slots id q me some_part few lt room)
+  adds_at n slots id q i me e some_part =
+      subst (λ (j : ℕ). Allows (Counted n) slots id me j (λ r. (r + 1) % 2 ^ 64) (λ r k. k ≡ (tally me.0.parts (me.0.count + 1) me.0.at me.0.seen, me.1))) (sym e) (adds n slots id q me some_part)
 
   -- a word is read, and the share's sum changes
   reads : (n slots id i : ℕ) (me : Me S Tally) (s : State S Tally) (h : Counted n s) → get_elem? s.views id ≡ some me.0 → (at seen : ℕ) → (at ≤ n) × (seen ≤ sum_below at h.counts)
       → Counted n record { words = slice_set s.words i (slice_index s.words i); homes = s.homes; views = set s.views id (tally me.0.parts me.0.count at seen) }
-  reads n slots id i me s h here at seen sees_it = steps n s id me.0 (tally me.0.parts me.0.count at seen) (slice_set s.words i (slice_index s.words i)) h.counts h here refl (h.idle id me.0 here) (h.within id me.0 here) (length-set s.words i (slice_index s.words i) ∙ h.long) (λ p. le_refl (h.counts p))
-      (words_read s.words h.counts n i h.words) (let b = h.whole in omega (arith, b)) sees_it
+  reads n slots id i me s h here at seen sees_it = steps n s id me.0 (tally me.0.parts me.0.count at seen) (slice_set s.words i (slice_index s.words i)) h.counts h here refl (h.idle id me.0 here) (λ p. le_refl (h.counts p))
+      (words_read s.words h.counts i h.words) (let b = h.whole in omega (arith, b)) sees_it
 
   pub starts : (n slots id i : ℕ) (me : Me S Tally) → Allows (Counted n) slots id me i (λ r. r) (λ r k. k ≡ (tally me.0.parts me.0.count 0 0, me.1))
   starts n slots id i me s h _ here _ = (tally me.0.parts me.0.count 0 0, keeps, tt, reads n slots id i me s h here 0 0 (omega arith, omega arith), refl)
@@ -163,7 +152,7 @@ module _ {S : Type 0} where
   sees n slots id q me is lt s h _ here _ =
       let r : ℕ = slice_index s.words (word_of q) in
       let old = h.seen id me.0 here in
-      let more : me.0.seen + r ≤ sum_below (suc me.0.at) h.counts = let o = old.1 in let b = h.words q lt in let e : h.counts q ≡ h.counts me.0.at = ap h.counts (sym is) in omega (arith, o, b, e) in (
+      let more : me.0.seen + r ≤ sum_below (suc me.0.at) h.counts = let o = old.1 in let b = h.words q in let e : h.counts q ≡ h.counts me.0.at = ap h.counts (sym is) in omega (arith, o, b, e) in (
         tally me.0.parts me.0.count (me.0.at + 1) (me.0.seen + r),
         keeps,
         tt,
@@ -191,12 +180,7 @@ module _ {S : Type 0} where
       let sees_none : (0 ≤ n) × (0 ≤ sum_below 0 h.counts) = (omega arith, omega arith) in
       record {
         counts = h.counts;
-        long = h.long;
         words = h.words;
-        within = λ j u e. ⊎_elim
-            (λ (here : get_elem? vs j ≡ some u). ⊎_elim (λ (t : (j ≡ id) × (l ≡ u)). subst (λ (y : Tally). y.count ≤ most * y.parts) t.1 (omega arith))
-            (λ (t : (j ≢ id) × (get_elem? s.views j ≡ some u)). h.within j u t.1) (at_set s.views id j l u here))
-            (λ (t : r ≡ u). subst (λ (y : Tally). y.count ≤ most * y.parts) t (omega arith)) (at_snoc vs r u j e);
         whole = let b = h.whole in omega (arith, b, c, c', fresh);
         parts = let q = h.parts in omega (arith, p, p', q, some_part);
         idle = λ j u e z. ⊎_elim
@@ -223,11 +207,7 @@ module _ {S : Type 0} where
       (let a = mine.0 in let b = his.0 in omega (arith, a, b), let a = mine.1 in let b = his.1 in omega (arith, a, b, mine_up, his_up)) in
       record {
         counts = h.counts;
-        long = h.long;
         words = h.words;
-        within = λ j u e. ⊎_elim (λ (t : (j ≡ other) × (spent ≡ u)). subst (λ (y : Tally). y.count ≤ most * y.parts) t.1 (omega arith))
-            (λ (o : (j ≢ other) × (get_elem? vs j ≡ some u)). ⊎_elim (λ (t : (j ≡ id) × (both ≡ u)). subst (λ (y : Tally). y.count ≤ most * y.parts) t.1 (let a = h.within id v at in let b = h.within other w was in omega (arith, a, b)))
-            (λ (t : (j ≢ id) × (get_elem? s.views j ≡ some u)). h.within j u t.1) (at_set s.views id j both u o.1)) (at_set vs other j spent u e);
         whole = let b = h.whole in omega (arith, b, c, c');
         parts = let q = h.parts in omega (arith, p, p', q);
         idle = λ j u e z. ⊎_elim (λ (t : (j ≡ other) × (spent ≡ u)). subst (λ (y : Tally). y.count ≡ 0) t.1 refl)
@@ -238,14 +218,12 @@ module _ {S : Type 0} where
             (λ (t : (j ≢ id) × (get_elem? s.views j ≡ some u)). h.seen j u t.1) (at_set s.views id j both u o.1)) (at_set vs other j spent u e);
       }
 
-  pub opens : (n k : ℕ) (words : List ℕ) → k ≡ 16 * n → words ≡ replicate k 0 → Counted {S = S} n (opening words [] (tally n 0 0 0))
-  opens n k words size e =
+  pub opens : (n k : ℕ) (words : List ℕ) → words ≡ replicate k 0 → Counted {S = S} n (opening words [] (tally n 0 0 0))
+  opens n k words e =
       let v : Tally = tally n 0 0 0 in
       record {
         counts = λ _. 0;
-        long = ap length e ∙ length-replicate k 0 ∙ size;
-        words = λ p below. subst (λ (l : List ℕ). slice_index l (word_of p) ≡ 0) (sym e) (zeros k (word_of p));
-        within = λ j u e. ⊎_elim (λ (t : get_elem? [] j ≡ some u). absurd (some-ne-none u (sym t))) (λ (t : v ≡ u). subst (λ (y : Tally). y.count ≤ most * y.parts) t (omega arith)) (at_snoc [] v u j e);
+        words = λ p. subst (λ (l : List ℕ). slice_index l (word_of p) ≤ 0) (sym e) (zeros k (word_of p));
         whole = let z = sum_none n in omega (arith, z);
         parts = omega arith;
         idle = λ j u e _. ⊎_elim (λ (t : get_elem? [] j ≡ some u). absurd (some-ne-none u (sym t))) (λ (t : v ≡ u). subst (λ (y : Tally). y.count ≡ 0) t refl) (at_snoc [] v u j e);

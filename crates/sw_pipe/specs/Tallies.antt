@@ -1,5 +1,5 @@
 -- The rule of a pipe's counter: a word for each sender, and what the shares of the counter know.
-use Rattle.std.specs.Prelude.{◌≡◌, ℕ, zero, suc, ◌+◌, ◌*◌, ◌≤◌, ◌<◌, max, List, [], ◌∷◌, length, slice_index}
+use Rattle.std.specs.Prelude.{◌≡◌, ℕ, zero, suc, ◌+◌, ◌*◌, ◌≤◌, max, List, [], ◌∷◌, slice_index}
 use mathlib.Core.Option.{some}
 use lib.ListN.{get_elem?}
 use Rattle.atomic_table.specs.Table.{State}
@@ -28,16 +28,10 @@ abbrev pub sum_below : ℕ → (ℕ → ℕ) → ℕ
 sum_below zero counts = 0
 sum_below (suc n) counts = sum_below n counts + counts n
 
--- the most that one sender counts, since no pipe has more room
-abbrev pub most : ℕ
-most = 4294967295
-
--- Each word is what its sender counted, and these together are what the shares counted. A share's sum is at most what the senders that it has added up counted
+-- Each word is at most what its sender counted, and these together are what the shares counted. A share's sum is at most what the senders that it has added up counted
 pub record Counted {S : Type 0} (senders : ℕ) (s : State S Tally) : Type 0 where
   pub counts : ℕ → ℕ
-  pub long : length s.words ≡ 16 * senders
-  pub words : (p : ℕ) → p < senders → slice_index s.words (word_of p) ≡ counts p
-  pub within : (j : ℕ) (v : Tally) → get_elem? s.views j ≡ some v → v.count ≤ most * v.parts
+  pub words : (p : ℕ) → slice_index s.words (word_of p) ≤ counts p
   pub whole : sum_below senders counts ≤ total (λ v. v.count) s.views
   pub parts : total (λ v. v.parts) s.views ≡ senders
   pub idle : (j : ℕ) (v : Tally) → get_elem? s.views j ≡ some v → v.parts ≡ 0 → v.count ≡ 0

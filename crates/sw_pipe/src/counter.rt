@@ -18,7 +18,6 @@ pub struct Counter {
     table: Table<(), Tally, u32, Counts, Global>,
     senders: u32,
     ghost some: { 1 ≤ senders },
-    ghost few: { senders ≤ 4294967295 },
     ghost key: { table.shared.key ≡ senders },
     ghost words: { table.shared.table_id.words ≡ 16 * senders },
 }
@@ -26,7 +25,7 @@ pub struct Counter {
 impl Counter {
     ghost use Rattle.std.specs.Prelude.{◌≡◌, ℕ, ◌+◌, ◌-◌, ◌*◌, ◌≤◌, ◌<◌, true, false, IfOk};
     ghost use Rattle.sw_pipe.specs.Counters.{counter_id, counter_senders};
-    ghost use Rattle.sw_pipe.specs.Tallies.{tally, tally_at, joined, word_of, most, IsShareOf};
+    ghost use Rattle.sw_pipe.specs.Tallies.{tally, tally_at, joined, word_of, IsShareOf};
 
     /// All words at 0, with a share that has all parts.
     pub fn new(alloc: Global, senders: u32) -> Result<(Counter, Share), OutOfMemory>
@@ -56,7 +55,6 @@ impl Counter {
         requires number { number < counter_senders self.now }
         requires share { IsShareOf (counter_id self.now) share.old }
         requires parts { 0 < (tally_at share.old).parts }
-        requires room { (tally_at share.old).count < most * (tally_at share.old).parts }
         ensures share { IsShareOf (counter_id self.now) share.new }
         ensures added { tally_at share.new ≡ tally (tally_at share.old).parts ((tally_at share.old).count + 1) (tally_at share.old).at (tally_at share.old).seen }
     {

@@ -13,7 +13,7 @@ pub struct Tally {
     pub seen: u64,
 }
 
-/// Each sender's word is what it counted. The key is the number of senders.
+/// Each sender's word is at most what it counted. The key is the number of senders.
 pub struct Counts;
 
 impl TableRule<(), Tally, u32> for Counts {

@@ -4,13 +4,15 @@
 mod many;
 mod message;
 mod notes;
+mod number;
 mod pair;
 mod rounds;
 #[cfg(test)]
 mod tests;
 
 pub use many::{Item, OfPipe, Pushing, collect, start_all};
-pub use message::{Even, Message, Node, take_number};
+pub use message::{Even, Message, Node};
 pub use notes::{answer, take_counted};
+pub use number::take_number;
 pub use pair::{close_in_two, push_both};
 pub use rounds::run;

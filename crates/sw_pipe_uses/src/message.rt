@@ -1,9 +1,5 @@
 //! A message that holds boxes, bytes, and a token that is not `Clone`.
-ghost use Rattle.std.specs.Prelude.{◌≡◌, ◌%◌, IfSome};
-ghost use Rattle.sw_pipe_uses.specs.Numbers.{TookNumber};
-
-use std::sync::Wait;
-use sw_pipe::Taker;
+ghost use Rattle.std.specs.Prelude.{◌≡◌, ◌%◌};
 
 /// An even number. It cannot be copied.
 #[derive(Drop)]
@@ -25,15 +21,4 @@ pub enum Message {
     Text(Vec<u8>),
     Chain(Box<Node>),
     Number(Even),
-}
-
-/// Takes a message, if there is one, and answers its number if it is one. That is even, since its type says so.
-pub fn take_number<R: Wait>(rt: &R, taker: &mut Taker<Message>) -> Option<u64>
-    ensures even { IfSome result (λ n. n % 2 ≡ 0) }
-    ensures took { TookNumber taker.old taker.new result }
-{
-    match taker.take(rt)? {
-        Message::Number(even) => Some(even.number),
-        _ => None,
-    }
 }
