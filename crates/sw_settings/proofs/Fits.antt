@@ -1,5 +1,5 @@
 -- Settings without a fault cut by a framing that can cut.
-use Rattle.std.proofs.Common.{◌≡◌, ℕ, ◌<◌, ◌≤◌, Bool, true, false, cond, List, [], length, Option, Some, None, refl, sym, true≢false, arith}
+use Rattle.std.proofs.Common.{◌≡◌, ℕ, ◌<◌, ◌≤◌, Bool, true, false, cond, List, length, Option, Some, None, refl, sym, true≢false, arith}
 use Rattle.std.specs.Prelude.{codes, nat_le, pos, negsuc, IsSomeAnd}
 use Rattle.sw_frame.specs.Cut.{IsFit}
 use Rattle.sw_frame.specs.declared.framing.Framing.TheVariants.{Raw, Eof, Length}

@@ -1,5 +1,5 @@
 -- What holds of pairs without a fault.
-use Rattle.std.proofs.Common.{◌≡◌, ℕ, ◌<◌, ◌≤◌, Bool, true, false, cond, not, ◌&&◌, List, [], ◌∷◌, length, Option, Some, None, Result, Ok, Err, refl, sym, subst, true≢false}
+use Rattle.std.proofs.Common.{◌≡◌, ℕ, ◌≤◌, Bool, true, false, cond, not, ◌&&◌, List, [], ◌∷◌, length, Option, Some, None, refl, sym, subst, true≢false}
 use Rattle.std.specs.Prelude.{IfSome, IsSomeAnd, codes, is_none, nat_le}
 use Rattle.std.specs.Option.{option_map, option_or, option_copied}
 use Rattle.std.specs.Borrow.{Bor}

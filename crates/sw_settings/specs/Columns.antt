@@ -1,5 +1,5 @@
 -- The columns that a text names.
-use Rattle.std.specs.Prelude.{ℕ, List, [], ◌∷◌, Bool, is_some, Option, Some, None}
+use Rattle.std.specs.Prelude.{ℕ, List, [], ◌∷◌, Bool, is_some, Option, Some}
 use Rattle.std.specs.Option.{unwrap_or}
 use Rattle.sw_column.specs.declared.column.Column.{Column}
 use Rattle.sw_call.specs.Columns.{columns_of}

@@ -1,5 +1,5 @@
 -- How a stream is cut, by what is set.
-use Rattle.std.specs.Prelude.{Option, if◌then◌else◌}
+use Rattle.std.specs.Prelude.{if◌then◌else◌}
 use Rattle.std.specs.Option.{unwrap_or}
 use Rattle.sw_frame_len.specs.declared.rule.Letter.TheVariants.{C}
 use Rattle.sw_frame_len.specs.declared.rule.LengthRule.{LengthRule}

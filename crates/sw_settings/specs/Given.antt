@@ -5,7 +5,7 @@ use Rattle.sw_settings.specs.declared.pair.SetValue.{SetValue}
 use Rattle.sw_settings.specs.declared.pair.SetValue.TheVariants as values
 use Rattle.sw_settings.specs.declared.pair.Pair.{Pair}
 use Rattle.sw_settings.specs.declared.keys.Rule.{Rule}
-use Rattle.sw_settings.specs.declared.keys.Rule.TheVariants.{Truth, Number, Text, Letter, Columns}
+use Rattle.sw_settings.specs.declared.keys.Rule.TheVariants.{Number}
 use Rattle.sw_settings.specs.Keys.{rule_of}
 use Rattle.sw_settings.specs.Checks.{is_of_kind, is_in_range}
 

@@ -1,5 +1,5 @@
 -- What each key is set to by pairs, and what holds of that.
-use Rattle.std.specs.Prelude.{◌≡◌, ℕ, ◌≤◌, List, [], codes, length, true, Option, Some, IsSomeAnd}
+use Rattle.std.specs.Prelude.{◌≡◌, ℕ, ◌≤◌, List, [], codes, length, true, Option, IsSomeAnd}
 use Rattle.std.specs.Option.{unwrap_or}
 use Rattle.sw_text.specs.Then.{◌>>=◌}
 use Rattle.sw_frame_len.specs.declared.rule.Letter.{Letter}
