@@ -22,9 +22,9 @@ module _ {B P Q : Type 0} where
   pub refused_once : (old new : SeatNow B P Q) (at found : ℕ) → new.seen ≡ old.seen → new.refusals ≡ (at, found) ∷ old.refusals → NotMade old new
   refused_once old new at found seen more = record { draws = ap draws_of seen; why = inl (omega (arith, ap length more)) }
 
-module _ {B P Q R : Type 0} (row_of : Q → Option ℕ) (needs : Q → Option B → Bool) (does : Q → Option B → Option P → ℕ → Done B P R) where
+module _ {B P Q R : Type 0} (may : Contents B P → ℕ → Q → Type 0) (row_of : Q → Option ℕ) (needs : Q → Option B → Bool) (does : Q → Option B → Option P → ℕ → Done B P R) where
   -- a draw that was refused, before which and behind which locks were taken and given back
-  pub draw_refused : (start : Contents B P) (old held new end : SeatNow B P Q) (fault : DrawFault) → held.seen ≡ old.seen → held.refusals ≡ old.refusals → RefusedBy row_of needs does start held new last_call fault → end.seen ≡ new.seen → end.refusals ≡ new.refusals → NotMade old end
+  pub draw_refused : (start : Contents B P) (old held new end : SeatNow B P Q) (fault : DrawFault) → held.seen ≡ old.seen → held.refusals ≡ old.refusals → RefusedBy may row_of needs does start held new last_call fault → end.seen ≡ new.seen → end.refusals ≡ new.refusals → NotMade old end
   draw_refused start old held new end (Spent n) seen refusals h seen' refusals' =
       let now : new.seen ≡ old.seen ++ others h.looked.between = ap (λ (s : SeatNow B P Q). s.seen) h.looked.now ∙ ap (λ (xs : List (ℕ × Q)). xs ++ others h.looked.between) seen in
       record {
