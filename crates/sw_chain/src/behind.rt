@@ -87,7 +87,14 @@ pub fn set_number_behind(
 }
 
 /// Writes a text into a column of a row behind the head, cut at the column's size.
-pub fn set_text_behind(head: &mut Row, at: u32, schema: &Schema, column: usize, offset: usize, text: &[u8])
+pub fn set_text_behind(
+    head: &mut Row,
+    at: u32,
+    schema: &Schema,
+    column: usize,
+    offset: usize,
+    text: &[u8],
+)
     requires place { at < length head.old.behind }
     requires packed { IfSome (slice_get head.old.behind at) (λ r. r.columns ≡ schema.now) }
     requires column { column < length schema.now }

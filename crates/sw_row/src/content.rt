@@ -124,6 +124,9 @@ impl Content {
     {
         schema.is_sound();
         let size = schema.at(at).size;
-        put_text(&mut self.bytes[offset..offset + size as usize + TEXT_HEAD], text);
+        put_text(
+            &mut self.bytes[offset..offset + size as usize + TEXT_HEAD],
+            text,
+        );
     }
 }

@@ -24,8 +24,8 @@ returns c =
     let gap : IsGap c.part-before.result.before c.part-before.result.rest c.args.head.now.behind c.args.at = record { rows = c.part-before.ensures.rows ∙ c.set_next.ensures.given; count = c.part-before.ensures.count } in
     let v : Value = values.Text (take (column_size (slice_get c.args.schema.now c.args.column)) c.args.text.now) in
     let joined : behind c.join.result ≡ with_value c.args.head.now.behind c.args.at c.args.column v =
-        c.join.ensures
-        ∙ ap (λ (x : Linked). onto (behind c.part-before.result.before) (x.here ∷ x.behind)) c.set_text.ensures
-        ∙ ap (λ (x : Linked). onto (behind c.part-before.result.before) (record x.here { values = slice_set x.here.values c.args.column v } ∷ x.behind)) c.deref_mut.ensures.value
-        ∙ gap_value c.part-before.result.before c.part-before.result.rest c.args.head.now.behind c.args.at c.in-Some.row gap c.in-Some.is c.args.column v in
+    c.join.ensures
+    ∙ ap (λ (x : Linked). onto (behind c.part-before.result.before) (x.here ∷ x.behind)) c.set_text.ensures
+    ∙ ap (λ (x : Linked). onto (behind c.part-before.result.before) (record x.here { values = slice_set x.here.values c.args.column v } ∷ x.behind)) c.deref_mut.ensures.value
+    ∙ gap_value c.part-before.result.before c.part-before.result.rest c.args.head.now.behind c.args.at c.in-Some.row gap c.in-Some.is c.args.column v in
     c.set_next-in-Some.ensures.row ∙ (λ i. record { here = (c.set_next.ensures.row i).here; behind = joined i })

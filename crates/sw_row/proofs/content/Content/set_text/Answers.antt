@@ -29,7 +29,7 @@ returns c =
     let wide_as = text_size c.at.result.now kind in
     let within = place_within c.args.schema.now c.args.at c.at.result.now c.at.ensures.value in
     let written = text_written c.args.schema.now c.self.inside.bytes c.put_text.new.bytes c.args.at c.at.result.now c.args.offset c.args.text.now c.at.ensures.value kind c.requires.offset
-            (omega arith) c.put_text.ensures.len (c.put_text.ensures.value ∙ ap (λ n. take n c.args.text.now) (long c.args.offset c.at.result.now.size c.self.inside.bytes (omega arith))) in
+    (omega arith) c.put_text.ensures.len (c.put_text.ensures.value ∙ ap (λ n. take n c.args.text.now) (long c.args.offset c.at.result.now.size c.self.inside.bytes (omega arith))) in
     let shown = subst (λ (cs : List Column). values_in cs (put_mid c.args.offset (c.args.offset + c.at.result.now.size + 2 - c.args.offset) c.self.inside.bytes c.put_text.new.bytes) ≡ set (values_in cs c.self.inside.bytes) c.args.at (values.Text (take c.at.result.now.size c.args.text.now))) (sym columns) written in
     (λ i. record { key = take c.self.inside.key_len c.self.inside.key; columns = columns_of c.self.inside.columns; values = shown i })
     ∙ ap (λ (p : Packed). record p { values = set p.values c.args.at (values.Text (take c.at.result.now.size c.args.text.now)) }) c.self.view_is
