@@ -1,0 +1,4 @@
+pub mod Modes
+pub mod Causes
+pub mod Conn
+pub mod Serve
