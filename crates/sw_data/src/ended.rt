@@ -1,19 +1,39 @@
+//! The end of a link.
+
 use sw_base::Session;
 
 /// Why a link ended.
-#[derive(Clone, Copy, Debug)]
+#[derive(Clone, Copy, Debug, PartialEq, Eq)]
 pub enum Cause {
     /// A read of the link answered End.
     PeerEnd,
+    /// A handler closed the session.
+    ServerClose,
+    /// A handler reset the session.
+    Reset,
+    /// A read of the link failed.
+    ReadFault,
+    /// A write of the link failed.
+    WriteFault,
     /// The bytes behind its last packet are no packet of at most the longest length: the length that is too long, in
     /// bytes, or the longest length where none can be told.
     TooLong(u64),
     /// The length field behind its last packet tells of a packet that ends before its own head does: that length.
     BadLength(u64),
+    /// A send would have made this many unsent bytes, more than a connection may have.
+    Overflow(u64),
+    /// The server ended.
+    Stop,
+    /// No descriptor was free; the link got no session.
+    NoSlot,
+    /// The numbers of sessions are used up; the link got no session.
+    NumbersSpent,
+    /// Memory ran out.
+    NoMemory,
 }
 
 /// What is said of a link at its end.
-#[derive(Clone, Copy, Debug)]
+#[derive(Clone, Copy, Debug, PartialEq, Eq)]
 pub struct Ended {
     /// Its session; None where it got none.
     pub session: Option<Session>,

@@ -1,41 +1,24 @@
+//! Events: what happens on a session or between workers and task workers, and is told to a handler.
+
 ghost use Rattle.std.specs.Prelude.{◌≡◌, IfOk};
 
-use sw_base::{Items, Octets, OutOfMemory, Session, TryCopy};
+use sw_base::{Octets, OutOfMemory, Session, TryCopy};
 
-/// What happens on a session and is told to its worker's handler: Connect first, then the packets with
-/// their numbers from 0, then Closed.
-#[derive(Drop)]
+/// What a handler is told. Of a session a worker is told Connect first, then the packets, then Closed; in the dispatch
+/// modes that tie no connection to a worker, the packets alone.
+#[derive(Drop, Debug)]
 pub enum Event {
+    /// The session began.
     Connect(Session),
+    /// A packet of the session: its number, from 0, and its bytes.
     Packet(Session, u64, Octets),
+    /// The session ended.
     Closed(Session),
+    /// A task worker finished the task of this id of the worker that is told; it may do so more than once.
+    Finish(u64, Octets),
+    /// The worker of this number posted a task: its id, which is unique with the worker only, and its bytes.
+    Task(u32, u64, Octets),
 }
-
-/// What a handler does. After `Done` it is given the next event.
-#[derive(Drop)]
-pub enum Act {
-    Send(Session, Octets),
-    Done,
-}
-
-/// What an act came to.
-#[derive(Drop)]
-pub enum Answer {
-    /// The bytes go to the session's reactor.
-    Sent,
-    /// The session isn't alive: its word held this number, 0 for none.
-    NoSession(u32),
-}
-
-/// What a handler is given: an event, or the answer to its last act.
-#[derive(Drop)]
-pub enum Given {
-    Event(Event),
-    Answer(Answer),
-}
-
-/// What a handler was given and what it did, in order.
-pub type Log = Items<(Given, Act)>;
 
 impl TryCopy for Event {
     fn try_copy(&self) -> Result<Event, OutOfMemory> {
@@ -43,33 +26,8 @@ impl TryCopy for Event {
             Event::Connect(s) => Ok(Event::Connect(*s)),
             Event::Packet(s, i, b) => Ok(Event::Packet(*s, *i, b.copy()?)),
             Event::Closed(s) => Ok(Event::Closed(*s)),
-        }
-    }
-}
-
-impl TryCopy for Act {
-    fn try_copy(&self) -> Result<Act, OutOfMemory> {
-        match self {
-            Act::Send(s, b) => Ok(Act::Send(*s, b.copy()?)),
-            Act::Done => Ok(Act::Done),
-        }
-    }
-}
-
-impl TryCopy for Answer {
-    fn try_copy(&self) -> Result<Answer, OutOfMemory> {
-        match self {
-            Answer::Sent => Ok(Answer::Sent),
-            Answer::NoSession(seen) => Ok(Answer::NoSession(*seen)),
-        }
-    }
-}
-
-impl TryCopy for Given {
-    fn try_copy(&self) -> Result<Given, OutOfMemory> {
-        match self {
-            Given::Event(e) => Ok(Given::Event(e.try_copy()?)),
-            Given::Answer(a) => Ok(Given::Answer(a.try_copy()?)),
+            Event::Finish(id, b) => Ok(Event::Finish(*id, b.copy()?)),
+            Event::Task(w, id, b) => Ok(Event::Task(*w, *id, b.copy()?)),
         }
     }
 }

@@ -4,16 +4,22 @@
 //! The byte lists and the Table's values stand below, in `sw_base`; they are handed on here for who uses both.
 #![tactic(auto)]
 
+mod acts;
+mod answers;
 mod ended;
 mod events;
+mod given;
 mod messages;
 mod targets;
 
+pub use acts::{Act, Dst};
+pub use answers::Answer;
 pub use ended::{Cause, Ended};
-pub use events::{Act, Answer, Event, Given, Log};
+pub use events::Event;
+pub use given::{Given, Log};
 pub use messages::{Ask, Got, Msg, Target};
 pub use sw_base::{
     Call, CallFault, Cells, Counter, Items, Key, Name, Octets, OutOfMemory, Pairs, Pieces, Reply,
     Session, TryCopy, Value, WordId,
 };
-pub use targets::fixed;
+pub use targets::{by_ip, by_uid, fixed, round};

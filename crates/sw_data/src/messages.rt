@@ -1,28 +1,39 @@
+//! Messages of the pipes, and what actors ask of the pipes and get from them.
+
 use crate::events::Event;
 use sw_base::{Octets, Session};
 
 /// A message of the pipes, where `L` is a link and `K` the ticket that holds its session.
 #[derive(Drop)]
 pub enum Msg<L, K> {
-    /// A new link for its reactor, with the peer's address.
+    /// A new link for its reactor, with the peer's IPv4 address as a big-endian number.
     Fresh(L, u32, K),
     /// Bytes to be written on a session's link.
     Send(Session, Octets),
+    /// The session is to end once what was sent to it is written.
+    Close(Session),
+    /// The session is to end at once.
+    Reset(Session),
     /// The worker is done with an event of the session that its reactor waits for.
     Bye(Session),
-    /// An event for its worker.
+    /// An event for a handler.
     Event(Event),
+    /// The task of this id is over at its task worker.
+    Over(u64),
+    /// The sender sends nothing more.
+    NoMore,
 }
 
-/// The actor to whose pipe a message goes.
+/// The actor to whose pipe a message goes, by its number.
 #[derive(Clone, Copy, Debug, PartialEq, Eq)]
 pub enum Target {
     Reactor(u32),
     Worker(u32),
+    Tasker(u32),
 }
 
 /// What an actor asks of the pipes at the end of a turn.
-#[derive(Drop)]
+#[derive(Drop, Debug)]
 pub enum Ask<M> {
     /// Take a message from its own pipe.
     Take,
@@ -32,10 +43,12 @@ pub enum Ask<M> {
     Nothing,
     /// Nothing, and there was nothing to do either.
     Rest,
+    /// Nothing more: the actor is finished.
+    Finished,
 }
 
 /// What an actor's last ask came to.
-#[derive(Drop)]
+#[derive(Drop, Debug)]
 pub enum Got<M> {
     /// It is the actor's first turn.
     Start,
