@@ -1,0 +1,4 @@
+pub mod Echo
+pub mod Told
+pub mod Log
+pub mod Noted
