@@ -1,60 +1,63 @@
 -- What a handler's log shows of one session.
-use Rattle.std.specs.Prelude.{ℕ, ◌==◌, if◌then◌else◌, List, [], ◌∷◌, ◌++◌}
-use Rattle.sw_data.specs.declared.events.Event.{Event}
-use Rattle.sw_data.specs.declared.events.Event.TheVariants.{Connect, Packet, Closed}
-use Rattle.sw_data.specs.declared.events.Act.{Act}
-use Rattle.sw_data.specs.declared.events.Act.TheVariants.{Send, Done}
-use Rattle.sw_data.specs.declared.events.Given.{Given}
-use Rattle.sw_data.specs.declared.events.Given.TheVariants.{Event as EventGiven, Answer as AnswerGiven}
+use Rattle.std.specs.Prelude.{◌≡◌, ℕ, ◌==◌, [], ◌∷◌, ◌++◌, List}
+use Rattle.sw_lists.specs.Lists.{collect, when}
+use Rattle.sw_record.specs.Words.{Event, Connect, Packet, Closed, Finish, Task, Act, Done, Given, EventGiven, AnswerGiven, Log}
 
--- the events of a log, in order
+-- the event, if it is one of this session
+abbrev pub of_session : ℕ → Event → List Event
+of_session s (Connect u) = when (u == s) (Connect u)
+of_session s (Packet u i b) = when (u == s) (Packet u i b)
+of_session s (Closed u) = when (u == s) (Closed u)
+of_session s (Finish id b) = []
+of_session s (Task w id b) = []
+
+-- the events that a handler was given, and those of s
 abbrev pub given_event : Given → List Event
 given_event (EventGiven e) = e ∷ []
 given_event (AnswerGiven a) = []
 
-abbrev pub events_of : List (Given × Act) → List Event
-events_of [] = []
-events_of (x ∷ xs) = given_event x.0 ++ events_of xs
+abbrev pub event_of : Given × Act → List Event
+event_of x = given_event x.0
 
--- those of one session
-abbrev pub session_in : Event → ℕ
-session_in (Connect s) = s
-session_in (Packet s i b) = s
-session_in (Closed s) = s
+abbrev pub events_of : Log → List Event
+events_of log = collect event_of log
 
-abbrev pub only : ℕ → List Event → List Event
-only s [] = []
-only s (e ∷ es) = if session_in e == s then e ∷ only s es else only s es
-
-abbrev pub told_of : ℕ → List (Given × Act) → List Event
-told_of s log = only s (events_of log)
+abbrev pub told_of : ℕ → Log → List Event
+told_of s log = collect (of_session s) (events_of log)
 
 -- the packets among events, with their numbers
 abbrev pub packet_in : Event → List (ℕ × List ℕ)
-packet_in (Connect s) = []
 packet_in (Packet s i b) = (i, b) ∷ []
-packet_in (Closed s) = []
+packet_in _ = []
 
 abbrev pub packets_in : List Event → List (ℕ × List ℕ)
-packets_in [] = []
-packets_in (e ∷ es) = packet_in e ++ packets_in es
+packets_in es = collect packet_in es
 
--- the packets of a session that a log's handler was given
-abbrev pub Handled : List (Given × Act) → ℕ → List (ℕ × List ℕ)
+abbrev pub Handled : Log → ℕ → List (ℕ × List ℕ)
 Handled log s = packets_in (told_of s log)
 
--- what may be given behind an act: its answer, and behind Done an event
-abbrev pub MayFollow : Act → Given → Type 0
-MayFollow Done (EventGiven e) = Unit {0}
-MayFollow Done (AnswerGiven a) = ⊥
-MayFollow (Send s b) (EventGiven e) = ⊥
-MayFollow (Send s b) (AnswerGiven a) = Unit {0}
+-- the numbers of packets
+abbrev pub number_of : ℕ × List ℕ → List ℕ
+number_of p = p.0 ∷ []
 
--- each of these is given behind the act before it, the first behind this one
-abbrev pub DialogueAfter : Act → List (Given × Act) → Type 0
-DialogueAfter act [] = Unit {0}
-DialogueAfter act (x ∷ xs) = MayFollow act x.0 × DialogueAfter x.1 xs
+abbrev pub numbers : List (ℕ × List ℕ) → List ℕ
+numbers ps = collect number_of ps
 
--- events and answers alternate with acts as they should, from an event on
-abbrev pub Dialogue : List (Given × Act) → Type 0
-Dialogue log = DialogueAfter Done log
+-- the Connects and the Closeds among events
+abbrev pub connect_in : Event → List Event
+connect_in (Connect s) = Connect s ∷ []
+connect_in _ = []
+
+abbrev pub closed_in : Event → List Event
+closed_in (Closed s) = Closed s ∷ []
+closed_in _ = []
+
+abbrev pub connects_of : ℕ → Log → List Event
+connects_of s log = collect connect_in (told_of s log)
+
+abbrev pub closeds_of : ℕ → Log → List Event
+closeds_of s log = collect closed_in (told_of s log)
+
+-- the last act is Done
+abbrev pub EndsDone : Log → Type 0
+EndsDone log = (front : Log) × ((given : Given) × (log ≡ front ++ (given, Done) ∷ []))

@@ -1,0 +1,12 @@
+pub mod Laws
+pub mod Shown
+pub mod Aims
+pub mod Tasks
+pub mod Sessions
+pub mod Causes
+pub mod Uids
+pub mod Places
+pub mod Drained
+pub mod Rounds
+pub mod Counts
+pub mod Steps

@@ -1,0 +1,6 @@
+pub mod Messages
+pub mod Claims
+pub mod Past
+pub mod Views
+pub mod Said
+pub mod Routes
