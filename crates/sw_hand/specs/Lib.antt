@@ -1,3 +1,5 @@
 pub mod House
 pub mod Stage
 pub mod Handlers
+pub mod Hand
+pub mod Hearing

@@ -2,11 +2,14 @@
 //! makes the handler's acts, one a turn.
 #![tactic(auto)]
 
+mod hand;
 mod handlers;
+mod hearing;
 mod house;
 mod owned;
 mod stage;
 
+pub use hand::Hand;
 pub use handlers::Handlers;
 pub use house::{House, Kind};
 pub use owned::Owned;

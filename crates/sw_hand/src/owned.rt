@@ -39,17 +39,21 @@ impl Owned {
 
     /// Tells whether this number stands at the descriptor.
     pub fn has(&self, fd: u32, session: Session) -> bool
-        requires { fd < length self.now }
-        ensures { result ≡ (slice_index_or 0 self.now fd == session) }
+        ensures { result ≡ (slice_index_or self.now fd 0 == session) }
     {
-        self.slots[fd as usize] == session.number()
+        let number = session.number();
+        match self.slots.get(fd as usize) {
+            Some(own) => *own == number,
+            None => false,
+        }
     }
 
-    /// Puts a number at the descriptor, 0 for none.
+    /// Puts a number at the descriptor, 0 for none; a descriptor without room is passed over.
     pub fn put(&mut self, fd: u32, number: u32)
-        requires { fd < length self.old }
         ensures { self.new ≡ slice_set self.old fd number }
     {
-        self.slots[fd as usize] = number;
+        if let Some(own) = self.slots.get_mut(fd as usize) {
+            *own = number;
+        }
     }
 }
