@@ -3,3 +3,5 @@ pub mod Stage
 pub mod Handlers
 pub mod Hand
 pub mod Hearing
+pub mod Asking
+pub mod Reaching

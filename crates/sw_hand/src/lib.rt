@@ -2,11 +2,13 @@
 //! makes the handler's acts, one a turn.
 #![tactic(auto)]
 
+mod asking;
 mod hand;
 mod handlers;
 mod hearing;
 mod house;
 mod owned;
+mod reaching;
 mod stage;
 
 pub use hand::Hand;

@@ -49,8 +49,8 @@ impl Current {
     }
 
     /// Tells whether the event is one of this session.
-    pub fn is_of(self, session: Session) -> bool
-        ensures { result ≡ is_of session self }
+    pub fn is_of(&self, session: Session) -> bool
+        ensures { result ≡ is_of session self.now }
     {
         match self {
             Current::Connect(s) => s.number() == session.number(),
