@@ -1,3 +1,11 @@
-pub mod Chunks
-pub mod Net
-pub mod Script
+pub mod Reads
+pub mod Told
+pub mod Course
+pub mod Listed
+pub mod Memory
+pub mod MemoryTells
+pub mod Nets
+pub mod MemoryNets
+pub mod NetTells
+pub mod Kept
+pub mod Keeping

@@ -1,12 +1,20 @@
-//! A link as the core has it: what is still to come on it is a script, and what was read and written is kept.
+//! The outside as actors reach it: links, the net that gives them, and the ends to which they go. Each is a trait, known to
+//! contracts by relations (what a call may answer, and what it leaves) and by what it tells, with a form in memory that
+//! follows a script. A link's faults are counted, and none is told without its cause.
 #![tactic(auto)]
 
-mod ahead;
+mod course;
+mod ends;
+mod keeper;
 mod link;
-mod message;
+mod memory_link;
+mod memory_net;
 mod net;
 
-pub use ahead::Ahead;
-pub use link::{Link, LinkRead, Script};
-pub use message::{Asks, Gets, Message};
+pub use course::{Course, Piece};
+pub use ends::{Back, Ends};
+pub use keeper::{Dropper, Keeper};
+pub use link::{Link, LinkRead, LinkWrite};
+pub use memory_link::{LinkStep, MemoryLink};
+pub use memory_net::MemoryNet;
 pub use net::{Accept, Net};
