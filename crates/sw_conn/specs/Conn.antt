@@ -1,147 +1,155 @@
--- One connection's moves, as a table.
-use Rattle.std.specs.Prelude.{ℕ, ◌+◌, ◌-◌, ◌==◌, ◌^◌, Bool, true, false, nat_lt, if◌then◌else◌, List, [], ◌∷◌, ◌++◌, Option, Some, None}
+-- One connection of a reactor: what a message of its session and a pipe call make of it, and the parts of a serve.
+use Rattle.std.specs.Prelude.{◌≡◌, ◌⊎◌, ℕ, ◌+◌, ◌-◌, ◌%◌, ◌^◌, ◌==◌, Bool, true, false, nat_lt, if◌then◌else◌, List, [], ◌∷◌, ◌++◌, length, drop, Option, Some, None}
 use Rattle.sw_data.specs.declared.ended.Cause.{Cause}
-use Rattle.sw_data.specs.declared.ended.Cause.TheVariants.{PeerEnd, TooLong, BadLength}
+use Rattle.sw_data.specs.declared.ended.Cause.TheVariants.{PeerEnd, ServerClose, Reset, ReadFault, WriteFault, Overflow, Stop, NoMemory}
+use Rattle.sw_data.specs.declared.ended.Ended.{Ended}
 use Rattle.sw_data.specs.declared.events.Event.{Event}
-use Rattle.sw_data.specs.declared.events.Event.TheVariants.{Connect, Packet, Closed}
+use Rattle.sw_data.specs.declared.events.Event.TheVariants.{Connect, Packet, Closed, Finish, Task}
+use Rattle.sw_data.specs.Targets.{fixed_target, ip_target, uid_target}
 use Rattle.sw_frame.specs.declared.framing.Framing.{Framing}
-use Rattle.sw_frame.specs.declared.next.Next.{Next}
-use Rattle.sw_frame.specs.declared.next.Next.TheVariants as next
-use Rattle.sw_frame.specs.Cutting.{next_of}
-use Rattle.sw_link.specs.declared.link.Link.{Link}
-use Rattle.sw_link.specs.declared.link.LinkRead.{LinkRead}
-use Rattle.sw_link.specs.declared.link.LinkRead.TheVariants.{Got, NotYet, End as AtEnd}
-use Rattle.sw_link.specs.declared.link.Script.{Script}
-use Rattle.sw_link.specs.Script.{script_read, script_after}
+use Rattle.sw_frame.specs.declared.framing.Framing.TheVariants.{Raw}
+use Rattle.sw_link.specs.declared.link.LinkWrite.{LinkWrite}
+use Rattle.sw_link.specs.declared.link.LinkWrite.TheVariants as writes
+use Rattle.sw_link.specs.Reads.{Read, GotPiece, ReadNotYet, ReadEnd, ReadFailed}
 use Rattle.sw_conn.specs.declared.conn.Conn.{Conn}
-use Rattle.sw_conn.specs.declared.conn.Asked.{Asked}
-use Rattle.sw_conn.specs.declared.conn.Asked.TheVariants.{Nothing as AskedNothing, Connect as AskedConnect, Packet as AskedPacket, Closed as AskedClosed}
-use Rattle.sw_conn.specs.declared.conn.Choice.{Choice}
-use Rattle.sw_conn.specs.declared.conn.Choice.TheVariants.{Push, Moved, Still, End}
+use Rattle.sw_conn.specs.declared.conn.Kind.{Kind}
+use Rattle.sw_conn.specs.declared.conn.Kind.TheVariants as kinds
+use Rattle.sw_conn.specs.declared.conn.Phase.TheVariants.{Coming, Open, Closing}
+use Rattle.sw_conn.specs.declared.terms.Terms.{Terms}
+use Rattle.sw_conn.specs.Modes.{keeps}
+use Rattle.sw_conn.specs.Causes.{is_hard, drops, is_packet}
 
--- a connection that its reactor just took
-abbrev pub fresh : Framing → Link → ℕ → ℕ → Conn
-fresh framing link ip session =
+-- the first soft cause stands until a hard one replaces it
+abbrev pub set_soft : Cause → Option Cause → Option Cause
+set_soft e None = Some e
+set_soft e (Some d) = Some d
+
+-- the first hard cause stands
+abbrev pub set_hard : Cause → Option Cause → Option Cause
+set_hard e c = if is_hard c then c else Some e
+
+-- one more, as far as 64 bits go, and as far as 128 bits go
+abbrev pub up : ℕ → ℕ
+up n = if nat_lt n (2 ^ 64 - 1) then n + 1 else n
+
+abbrev pub up_far : ℕ → ℕ
+up_far n = if nat_lt n (2 ^ 128 - 1) then n + 1 else n
+
+-- a connection that was just taken
+abbrev pub fresh : {L K : Type 0} → Framing → Option Cause → L → ℕ → K → ℕ → Conn L K
+fresh framing cause link ip ticket s =
     record {
       link = link;
       ip = ip;
-      session = session;
+      ticket = ticket;
+      session = s;
       cutter = record { framing = framing; pieces = []; given = 0 };
-      connected = false;
-      dispatched = 0;
-      cause = None;
-      closed = false;
-      awaiting = false;
-      asked = AskedNothing;
-      held = None;
       unsent = [];
+      held = None;
+      awaited = 0;
+      uid = 0;
+      split = 0;
+      dispatched = 0;
+      cause = cause;
+      phase = Coming;
     }
 
--- the event that was asked for was pushed
-abbrev pub noted_as : Asked → Conn → Conn
-noted_as AskedNothing c = record c { asked = AskedNothing }
-noted_as AskedConnect c = record c { asked = AskedNothing; connected = true }
-noted_as AskedPacket c = record c { asked = AskedNothing; dispatched = (if nat_lt c.dispatched (2 ^ 64 - 1) then c.dispatched + 1 else c.dispatched) }
-noted_as AskedClosed c = record c { asked = AskedNothing; closed = true; awaiting = true }
+-- with memory for its framing, and without
+abbrev pub IsFresh : {L K : Type 0} → Framing → L → ℕ → K → ℕ → Conn L K → Type 0
+IsFresh framing link ip ticket s c = (c ≡ fresh framing None link ip ticket s) ⊎ (c ≡ fresh Raw (Some NoMemory) link ip ticket s)
 
-abbrev pub noted : Conn → Conn
-noted c = noted_as c.asked c
+-- a send is appended, unless it would make more unsent bytes than there may be, or finds no memory
+abbrev pub sent_open : {L K : Type 0} → Terms → Bool → List ℕ → ℕ → Conn L K → Conn L K
+sent_open t starved b n c =
+    if nat_lt t.buffer_size n
+    then record c { cause = Some (Overflow n) }
+    else (if starved then record c { cause = Some NoMemory } else record c { unsent = c.unsent ++ b })
 
--- the event came back and is held
-abbrev pub returned : Conn → Event → Conn
-returned c e = record c { asked = AskedNothing; held = Some e }
+abbrev pub sent : {L K : Type 0} → Terms → Bool → List ℕ → Conn L K → Conn L K
+sent t starved b c = if is_hard c.cause then c else sent_open t starved b (length c.unsent + length b) c
 
--- bytes for a session, and a session's Bye, change the connection of that session alone
-abbrev pub with_send : ℕ → List ℕ → Conn → Conn
-with_send s b c = if c.session == s then record c { unsent = c.unsent ++ b } else c
+abbrev pub closes : {L K : Type 0} → Conn L K → Conn L K
+closes c = record c { cause = set_soft ServerClose c.cause }
 
-abbrev pub with_bye : ℕ → Conn → Conn
-with_bye s c = if c.session == s then record c { awaiting = false } else c
+abbrev pub resets : {L K : Type 0} → Conn L K → Conn L K
+resets c = record c { cause = set_hard Reset c.cause }
 
--- all unsent bytes are written
-abbrev pub flushed : Conn → Conn
-flushed c = record c { link = record c.link { written = c.link.written ++ c.unsent }; unsent = [] }
+abbrev pub stops : {L K : Type 0} → Conn L K → Conn L K
+stops c = record c { cause = set_hard Stop c.cause }
+
+abbrev pub answered : {L K : Type 0} → Conn L K → Conn L K
+answered c = record c { awaited = c.awaited - 1 }
+
+-- which event of it was pushed
+abbrev pub kind_of : Event → Kind
+kind_of (Connect s) = kinds.Connect
+kind_of (Packet s i b) = kinds.Packet
+kind_of (Closed s) = kinds.Closed
+kind_of (Finish id b) = kinds.Other
+kind_of (Task w id b) = kinds.Other
+
+-- its event was pushed
+abbrev pub noted : {L K : Type 0} → Terms → Kind → Conn L K → Conn L K
+noted t kinds.Connect c = record c { phase = Open; awaited = (if keeps t.mode then c.awaited else up_far c.awaited) }
+noted t kinds.Packet c = record c { dispatched = up c.dispatched; awaited = (if keeps t.mode then c.awaited else up_far c.awaited) }
+noted t kinds.Closed c = record c { phase = Closing; awaited = up_far c.awaited }
+noted t kinds.Other c = c
+
+-- its event came back
+abbrev pub holds : {L K : Type 0} → ℕ → Event → Conn L K → Conn L K
+holds w e c = record c { held = Some (w, e) }
+
+-- a serve, point 1: a write, where something is unsent and no cause is hard
+abbrev pub wrote : {L K : Type 0} → LinkWrite → Conn L K → Conn L K
+wrote (writes.Took k) c = record c { unsent = drop k c.unsent }
+wrote writes.NotYet c = c
+wrote writes.Failed c = record c { cause = Some WriteFault }
 
 abbrev pub has_unsent : List ℕ → Bool
 has_unsent [] = false
 has_unsent (b ∷ bs) = true
 
--- what a move comes to
-pub record Chosen : Type 0 where
-  pub conn : Conn
-  pub choice : Choice
-  pub reads : Bool
+abbrev pub may_write : {L K : Type 0} → Conn L K → Bool
+may_write c = if is_hard c.cause then false else has_unsent c.unsent
 
-abbrev pub kind_of : Event → Asked
-kind_of (Connect s) = AskedConnect
-kind_of (Packet s i b) = AskedPacket
-kind_of (Closed s) = AskedClosed
+-- a hard cause drops unsent bytes and a held packet, ServerClose a held packet
+abbrev pub drop_packet : Option (ℕ × Event) → Option (ℕ × Event)
+drop_packet h = if is_packet h then None else h
 
--- with a cause: Closed is pushed, and once its Bye came the connection is over
-abbrev pub finish : Conn → Chosen
-finish c =
-    if c.closed
-    then record { conn = c; choice = (if c.awaiting then Still else End); reads = false }
-    else record { conn = record c { asked = AskedClosed }; choice = Push (Closed c.session); reads = false }
+abbrev pub cleared : {L K : Type 0} → Conn L K → Conn L K
+cleared c = record c { unsent = (if is_hard c.cause then [] else c.unsent); held = (if drops c.cause then drop_packet c.held else c.held) }
 
--- a read: a piece goes to the cutter, and the end is the cause PeerEnd
-abbrev pub read_as : Conn → LinkRead → Conn
-read_as c (Got p) = record c { link = record c.link { pieces = c.link.pieces ++ p ∷ [] }; cutter = record c.cutter { pieces = c.cutter.pieces ++ p ∷ [] } }
-read_as c NotYet = c
-read_as c AtEnd = record c { link = record c.link { at_end = true }; cause = Some PeerEnd }
+-- the look of mode 5: a uid once seen is kept, with the packets that were pushed before
+abbrev pub sees : {L K : Type 0} → ℕ → Conn L K → Conn L K
+sees look c = if c.uid == 0 then record c { uid = look; split = c.dispatched } else c
 
-abbrev pub read_choice : LinkRead → Choice
-read_choice (Got p) = Moved
-read_choice NotYet = Still
-read_choice AtEnd = Moved
+-- its worker in modes 2 and 4, and in mode 5
+abbrev pub home : {L K : Type 0} → Terms → Conn L K → ℕ
+home t c = if t.mode == 4 then ip_target c.ip t.worker_num else fixed_target (c.session % t.max_conn) t.worker_num
 
--- the bytes behind the last packet are no packet: that is the cause, and nothing more is read
-abbrev pub failed : Conn → Cause → Chosen
-failed c cause = record { conn = record c { cause = Some cause }; choice = Moved; reads = false }
+abbrev pub side : {L K : Type 0} → Terms → Conn L K → ℕ
+side t c = uid_target (c.session % t.max_conn) c.uid t.worker_num
 
--- without a cause: the next packet is pushed with its number, a fault behind the last one is the cause, and without
--- either more is read
-abbrev pub cut_as : Conn → LinkRead → Next → Chosen
-cut_as c read (next.Packet p) = record { conn = record c { asked = AskedPacket; cutter = record c.cutter { given = c.cutter.given + 1 } }; choice = Push (Packet c.session c.dispatched p); reads = false }
-cut_as c read next.More = record { conn = read_as c read; choice = read_choice read; reads = true }
-cut_as c read (next.TooLong n) = failed c (TooLong n)
-cut_as c read (next.BadLength n) = failed c (BadLength n)
-cut_as c read next.OutOfMemory = record { conn = c; choice = Still; reads = false }
+-- a read: a piece goes to the cutter
+abbrev pub read_by : {L K : Type 0} → Bool → Read → Conn L K → Conn L K
+read_by starved (GotPiece p) c = if starved then record c { cause = Some NoMemory } else record c { cutter = record c.cutter { pieces = c.cutter.pieces ++ p ∷ [] } }
+read_by starved ReadNotYet c = c
+read_by starved ReadEnd c = record c { cause = Some PeerEnd }
+read_by starved ReadFailed c = record c { cause = Some ReadFault }
 
-abbrev pub choose_by : Conn → LinkRead → Option Cause → Chosen
-choose_by c read (Some cause) = finish c
-choose_by c read None =
-    if nat_lt c.dispatched (2 ^ 64 - 1)
-    then cut_as c read (next_of c.cutter)
-    else record { conn = c; choice = Still; reads = false }
+-- what is said of it: the cause of a connection without one is PeerEnd
+abbrev pub cause_of : Option Cause → Cause
+cause_of None = PeerEnd
+cause_of (Some e) = e
 
--- the next move: what is held goes first, then Connect, then packets, then Closed
-abbrev pub choose_held : Conn → LinkRead → Option Event → Chosen
-choose_held c read (Some e) = record { conn = record c { held = None; asked = kind_of e }; choice = Push e; reads = false }
-choose_held c read None =
-    if c.connected
-    then choose_by c read c.cause
-    else record { conn = record c { asked = AskedConnect }; choice = Push (Connect c.session); reads = false }
-
-abbrev pub choose : Conn → LinkRead → Chosen
-choose c read = choose_held c read c.held
-
--- where a write moved something, the serve did
-abbrev pub moved_by : Bool → Choice → Choice
-moved_by wrote (Push e) = Push e
-moved_by wrote Moved = Moved
-moved_by wrote Still = if wrote then Moved else Still
-moved_by wrote End = End
-
--- a serve, by what a read would answer
-abbrev pub serve : Conn → LinkRead → Chosen
-serve c read =
-    let d = choose (flushed c) read in
-    record d { choice = moved_by (has_unsent c.unsent) d.choice }
-
--- what is then still to come
-abbrev pub script_by : Bool → Script → Script
-script_by reads s = if reads then script_after 8192 s else s
-
-abbrev pub script_used : Conn → Script → Script
-script_used c s = script_by (serve c (script_read 8192 s)).reads s
+abbrev pub account : {L K : Type 0} → Terms → Conn L K → ℕ → Cause → Ended
+account t c uid e =
+    record {
+      session = Some c.session;
+      fd = c.session % t.max_conn;
+      ip = c.ip;
+      uid = uid;
+      dispatched = c.dispatched;
+      split = (if c.uid == 0 then c.dispatched else c.split);
+      cause = e;
+    }

@@ -1,2 +1,4 @@
+pub mod Modes
+pub mod Causes
 pub mod Conn
-pub mod Stays
+pub mod Serve

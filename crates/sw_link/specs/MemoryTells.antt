@@ -57,6 +57,7 @@ read_fits starved room l =
     by_list : (b : Bool) → Fits l (if b then record { read = ReadFailed; link = faulty (counted_read l) } else next_read starved room (counted_read l))
     by_list true = record { tells = refl; counts = rose l.faults }
     by_list false = counted_fits l (next_read starved room (counted_read l)) (next_fits starved room (counted_read l) (first_need l.course.left))
+
     pick : (b : Bool) → l.at_end ≡ b → Fits l (if b then record { read = ReadEnd; link = counted_read l } else (if listed l.reads l.failing_reads then record { read = ReadFailed; link = faulty (counted_read l) } else next_read starved room (counted_read l)))
     pick true e = record { tells = ended_told (told_of l) e; counts = same (faults_of l) }
     pick false e = by_list (listed l.reads l.failing_reads)
@@ -99,6 +100,7 @@ write_suits starved piece l =
   where
     behind_count : Suits (counted_write l) piece (next_write starved piece (counted_write l)) → Suits l piece (next_write starved piece (counted_write l))
     behind_count s = record { tells = s.tells; counts = s.counts }
+
     pick : (b : Bool) → Suits l piece (if b then record { write = writes.Failed; link = faulty (counted_write l) } else next_write starved piece (counted_write l))
     pick true = record { tells = refl; counts = rose l.faults }
     pick false = behind_count (next_suits starved piece (counted_write l))

@@ -34,6 +34,7 @@ accept_suits n =
   where
     counted : Suits (counted_accept n) (accept_next (counted_accept n) n.links) → Suits n (accept_next (counted_accept n) n.links)
     counted s = record { tells = s.tells; counts = s.counts }
+
     pick : (b : Bool) → Suits n (if b then record { answer = accepts.Failed; net = record (counted_accept n) { faults = min (n.faults + 1) most } } else accept_next (counted_accept n) n.links)
     pick true = record { tells = refl; counts = rose n.faults }
     pick false = counted (next_suits (counted_accept n) n.links refl)

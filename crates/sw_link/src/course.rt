@@ -25,7 +25,6 @@ pub struct Course {
 
 impl Model for Course {
     ghost use Rattle.sw_link.specs.Course.{Pieces, left_from, IsCourse};
-
     ghost use Rattle.std.specs.Prelude.{drop};
 
     ghost Value = { Pieces };

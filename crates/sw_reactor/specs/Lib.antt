@@ -1,3 +1,1 @@
-pub mod Place
-pub mod Reactor
-pub mod Stays
+pub mod Line

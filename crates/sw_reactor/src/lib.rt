@@ -1,7 +1,6 @@
-//! The reactor: it owns the connection, reads its packets and pushes them to the connection's worker, and writes
-//! what handlers send back.
+//! The reactor: it owns connections, serves them round by round, and passes what it takes from its pipe to the one that it is for.
 #![tactic(auto)]
 
-mod reactor;
+mod line;
 
-pub use reactor::{MAX_CONN, Over, Reactor, WORKERS, ended};
+pub use line::Line;
