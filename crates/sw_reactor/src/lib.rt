@@ -2,5 +2,8 @@
 #![tactic(auto)]
 
 mod line;
+mod reactor;
+mod settle;
 
 pub use line::Line;
+pub use reactor::{Asked, Reactor};
