@@ -48,8 +48,8 @@ OnLine r P q = P r.line q.line × (q ≡ record r { line = q.line })
 abbrev pub Joins : {L K : Type 0} → Framing → L → ℕ → K → ℕ → Lined L K → Lined L K → Type 0
 Joins {L} {K} framing link ip ticket s l m =
     MatchBool (nat_lt (length l.conns) l.room)
-      ((c : Conn L K) × (IsFresh framing link ip ticket s c × (m ≡ record l { conns = l.conns ++ c ∷ [] })))
-      (m ≡ l)
+    ((c : Conn L K) × (IsFresh framing link ip ticket s c × (m ≡ record l { conns = l.conns ++ c ∷ [] })))
+    (m ≡ l)
 
 -- what a taken message makes of it
 abbrev pub SettlesMsg : {L K : Type 0} → (K → ℕ) → Reactor L K → Msg L K → Reactor L K → Type 0

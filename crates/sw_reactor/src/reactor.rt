@@ -50,7 +50,12 @@ impl<L, K> Reactor<L, K> {
     ghost use Rattle.sw_reactor.specs.Reactor.{IsStarted, TakesOne};
 
     /// A reactor before its first turn, with room for all its connections, whose reads take at most `read_size` bytes.
-    pub fn new(alloc: Global, terms: Terms, framing: FitFraming, read_size: u32) -> Result<Reactor<L, K>, OutOfMemory>
+    pub fn new(
+        alloc: Global,
+        terms: Terms,
+        framing: FitFraming,
+        read_size: u32,
+    ) -> Result<Reactor<L, K>, OutOfMemory>
         ensures { IfOk result (λ r. IsStarted terms framing read_size r) }
     {
         let buffer = vec![in alloc; 0u8; read_size as usize]?;

@@ -49,7 +49,9 @@ impl<L: Drop, K: Ticketed + Drop> Reactor<L, K> {
         ensures { SettlesMsg K.number self.old message self.new }
     {
         match message {
-            Msg::Fresh(link, ip, ticket) => self.line.take_fresh(alloc, &self.framing, link, ip, ticket),
+            Msg::Fresh(link, ip, ticket) => self
+                .line
+                .take_fresh(alloc, &self.framing, link, ip, ticket),
             Msg::Send(session, bytes) => self.line.take_send(self.terms, session, bytes),
             Msg::Close(session) => self.line.take_close(session),
             Msg::Reset(session) => self.line.take_reset(session),
