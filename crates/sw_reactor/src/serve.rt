@@ -25,7 +25,7 @@ impl<L: Drop, K: Drop> Reactor<L, K> {
     ghost use Rattle.sw_reactor.specs.Aims.{AimsSide, AimsIdle, next_turn};
 
     /// The worker of the connection that is served, in the modes that keep one.
-    fn aim_home(&self) -> u32
+    pub(crate) fn aim_home(&self) -> u32
         requires at { self.now.at < length self.now.line.conns }
         requires workers { 0 < self.now.terms.worker_num }
         requires slots { 0 < self.now.terms.max_conn }
@@ -35,7 +35,7 @@ impl<L: Drop, K: Drop> Reactor<L, K> {
     }
 
     /// The worker of the connection that is served by the uid that a look shows.
-    fn aim_side<B: Book>(&mut self, book: &mut B) -> u32
+    pub(crate) fn aim_side<B: Book>(&mut self, book: &mut B) -> u32
         requires at { self.old.at < length self.old.line.conns }
         requires workers { 0 < self.old.terms.worker_num }
         requires slots { 0 < self.old.terms.max_conn }
@@ -47,7 +47,7 @@ impl<L: Drop, K: Drop> Reactor<L, K> {
     }
 
     /// The worker whose turn it is, or in mode 3 the first idle one from there.
-    fn aim_idle<C: Board>(&self, board: &mut C) -> u32
+    pub(crate) fn aim_idle<C: Board>(&self, board: &mut C) -> u32
         requires workers { 0 < self.now.terms.worker_num }
         requires members { members Workers (C.sizes board.old) ≡ self.now.terms.worker_num }
         ensures { AimsIdle C.goes C.sizes self.now board.old result board.new }
@@ -60,7 +60,7 @@ impl<L: Drop, K: Drop> Reactor<L, K> {
     }
 
     /// One packet more was taken from the cutters.
-    fn count_packet(&mut self)
+    pub(crate) fn count_packet(&mut self)
         requires { 0 < self.old.terms.worker_num }
         ensures { self.new ≡ record self.old { turn = next_turn self.old.terms.worker_num self.old.turn } }
     {
