@@ -3,7 +3,7 @@ ghost use Rattle.std.specs.Prelude.{◌≡◌, ◌+◌, ◌-◌, ◌^◌, ◌<�
 ghost use Rattle.sw_data.specs.declared.table.Value.TheVariants as values;
 ghost use Rattle.sw_column.specs.declared.column.Kind.TheVariants as kinds;
 ghost use Rattle.sw_column.specs.Values.{HasKinds, holds};
-ghost use Rattle.sw_row.specs.Layout.{kept, offset};
+ghost use Rattle.sw_row.specs.Layout.{kept, offset_of};
 ghost use Rattle.sw_chain.specs.Rows.{found, without, with_second, with_values, with_value};
 
 use std::marker::Model;
@@ -122,7 +122,7 @@ impl Chain {
         requires packed { IfSome (slice_get self.now at) (λ r. r.columns ≡ schema.now) }
         requires column { column < length schema.now }
         requires kind { IfSome (slice_get schema.now column) (λ c. c.kind ≡ kinds.Int) }
-        requires offset { offset ≡ offset schema.now column }
+        requires offset { offset ≡ offset_of schema.now column }
         ensures { IfSome (slice_get self.now at) (λ r. slice_get r.values column ≡ Some (values.Int result)) }
     {
         self.row(at).number(schema, column, offset)
@@ -134,7 +134,7 @@ impl Chain {
         requires packed { IfSome (slice_get self.old at) (λ r. r.columns ≡ schema.now) }
         requires column { column < length schema.now }
         requires fit { IfSome (slice_get schema.now column) (λ c. IsTrue (holds c.kind c.size (values.Int n))) }
-        requires offset { offset ≡ offset schema.now column }
+        requires offset { offset ≡ offset_of schema.now column }
         ensures { self.new ≡ with_value self.old at column (values.Int n) }
     {
         loop {}

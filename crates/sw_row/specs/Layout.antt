@@ -1,6 +1,6 @@
 -- How the values of a row stand in its bytes: column behind column, each in as many bytes as it is wide.
 use Rattle.std.specs.Prelude.{ℕ, ◌+◌, List, [], ◌∷◌, take, drop, sum_by, ◌==◌, if◌then◌else◌, ℤ, pos}
-use Rattle.std.specs.Int.{w8, w16, w32, w64, from_le_bytes, cast_signed, int_wrap}
+use Rattle.std.specs.Int.{w8, w16, w32, w64, from_le_bytes, to_le_bytes, cast_signed, cast_unsigned}
 use Rattle.sw_data.specs.declared.table.Value.{Value}
 use Rattle.sw_data.specs.declared.table.Value.TheVariants as values
 use Rattle.sw_column.specs.declared.column.Column.{Column}
@@ -32,16 +32,12 @@ values_in [] bytes = []
 values_in (c ∷ cs) bytes = value_in c.kind c.size (take (width c.kind c.size) bytes) ∷ values_in cs (drop (width c.kind c.size) bytes)
 
 -- where the bytes of a column begin
-abbrev pub offset : List Column → ℕ → ℕ
-offset cs at = sum_by (λ c. width c.kind c.size) (take at cs)
+abbrev pub offset_of : List Column → ℕ → ℕ
+offset_of cs at = sum_by (λ c. width c.kind c.size) (take at cs)
 
--- what 1, 2, 4 or 8 bytes keep of a number
+-- what 1, 2, 4 or 8 bytes keep of a number: its lowest bytes
 abbrev pub kept_number : ℕ → ℤ → ℤ
-kept_number size n =
-    if size == 1 then int_wrap w8 n
-    else if size == 2 then int_wrap w16 n
-    else if size == 4 then int_wrap w32 n
-    else int_wrap w64 n
+kept_number size n = number_in size (take size (to_le_bytes w64 (cast_unsigned w64 n)))
 
 -- what a column keeps of a value: a text is cut at its size
 abbrev pub kept_value : Kind → ℕ → Value → Value

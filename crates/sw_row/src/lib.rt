@@ -2,7 +2,10 @@
 //! it. Stands above the columns, and below the buckets.
 #![tactic(auto)]
 
+mod bytes;
 mod content;
+mod packing;
 mod row;
 
+pub use packing::offset;
 pub use row::Row;

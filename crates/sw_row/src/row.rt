@@ -4,7 +4,7 @@ ghost use Rattle.sw_data.specs.declared.table.Value.TheVariants as values;
 ghost use Rattle.sw_column.specs.declared.column.Kind.TheVariants as kinds;
 ghost use Rattle.sw_column.specs.Fit.{is_key};
 ghost use Rattle.sw_column.specs.Values.{HasKinds, IsRow, holds};
-ghost use Rattle.sw_row.specs.Layout.{kept, offset};
+ghost use Rattle.sw_row.specs.Layout.{kept, offset_of};
 ghost use Rattle.sw_row.specs.Packed.{unpacked, behind};
 
 use crate::content::Content;
@@ -90,7 +90,7 @@ impl Row {
         requires packed { self.now.here.columns ≡ schema.now }
         requires place { at < length schema.now }
         requires kind { IfSome (slice_get schema.now at) (λ c. c.kind ≡ kinds.Int) }
-        requires offset { offset ≡ offset schema.now at }
+        requires offset { offset ≡ offset_of schema.now at }
         ensures { slice_get self.now.here.values at ≡ Some (values.Int result) }
     {
         self.content.number(schema, at, offset)
@@ -101,7 +101,7 @@ impl Row {
         requires packed { self.old.here.columns ≡ schema.now }
         requires place { at < length schema.now }
         requires fit { IfSome (slice_get schema.now at) (λ c. IsTrue (holds c.kind c.size (values.Int n))) }
-        requires offset { offset ≡ offset schema.now at }
+        requires offset { offset ≡ offset_of schema.now at }
         ensures { self.new ≡ record self.old { here = record self.old.here { values = slice_set self.old.here.values at (values.Int n) } } }
     {
         self.content.set_number(schema, at, offset, n);
