@@ -1,0 +1,7 @@
+//! Buckets of the Table: one row in place, and boxed rows behind it. Stands above the packed rows, and below the shared
+//! Table.
+#![tactic(auto)]
+
+mod chain;
+
+pub use chain::Chain;
