@@ -1,14 +1,15 @@
 -- The rows of a bucket, a list: the head first.
-use Rattle.std.specs.Prelude.{◌≡◌, ℕ, zero, suc, List, [], ◌∷◌, Option, Some, None, position, remove, slice_get, slice_set}
+use Rattle.std.specs.Prelude.{ℕ, zero, suc, List, [], ◌∷◌, Option, Some, None, if◌then◌else◌, remove, slice_set}
+use Rattle.std.specs.Option.{option_map}
 use Rattle.std.specs.Str.{bytes_eq}
 use Rattle.sw_data.specs.declared.table.Value.{Value}
-use Rattle.sw_data.specs.declared.table.Value.TheVariants as values
 use Rattle.sw_column.specs.declared.column.Column.{Column}
 use Rattle.sw_row.specs.Packed.{Packed, Linked}
 
 -- where the row of a key stands, from 0
 abbrev pub found : List Packed → List ℕ → Option ℕ
-found rows key = position (λ r. bytes_eq r.key key) rows
+found [] key = None
+found (r ∷ rows) key = if bytes_eq r.key key then Some 0 else option_map suc (found rows key)
 
 abbrev pub without_at : List Packed → Option ℕ → List Packed
 without_at rows None = rows

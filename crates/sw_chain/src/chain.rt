@@ -6,6 +6,8 @@ ghost use Rattle.sw_column.specs.Values.{HasKinds, holds};
 ghost use Rattle.sw_row.specs.Layout.{kept, offset_of};
 ghost use Rattle.sw_chain.specs.Rows.{found, without, with_second, with_values, with_value};
 
+use crate::parted::{Parted, join, part};
+use crate::walk::{find_from, row_at};
 use std::marker::Model;
 use std::mem;
 use sw_column::{RowBuf, Schema};
@@ -14,6 +16,7 @@ use sw_row::Row;
 /// The rows of a bucket, a list: the first stands in place, and each other one in a box behind the one before. No call
 /// takes memory or gives any back. Contracts see the list of the rows. A chain is as large as a row, more than 1,000
 /// bytes: where it is moved often, keep it in a box.
+#[derive(Drop)]
 pub struct Chain {
     len: u32,
     head: Row,
@@ -104,7 +107,25 @@ impl Chain {
         ensures last { IfSome result (λ spare. IfNone spare (length self.old ≡ 1)) }
         ensures spare { IfSome result (λ spare. IfSome spare (λ row. (2 ≤ length self.old) × (row.value.behind ≡ []))) }
     {
-        loop {}
+        let at = self.find(key)?;
+        self.len -= 1;
+        if at == 0 {
+            let Some(mut next) = self.head.set_next(None) else {
+                self.head = Row::new();
+                return Some(None);
+            };
+            let rest = next.set_next(None);
+            mem::swap(&mut self.head, &mut *next);
+            self.head.set_next(rest);
+            return Some(Some(next));
+        }
+        let Parted { before, rest } = part(self.head.set_next(None), at - 1);
+        let Some(mut row) = rest else {
+            unreachable!()
+        };
+        let behind = row.set_next(None);
+        self.head.set_next(join(before, behind));
+        Some(Some(row))
     }
 
     /// Writes new values into a row, under the same key.
@@ -137,6 +158,35 @@ impl Chain {
         requires offset { offset ≡ offset_of schema.now column }
         ensures { self.new ≡ with_value self.old at column (values.Int n) }
     {
-        loop {}
+        set_number_at(&mut self.head, at, schema, column, offset, n);
     }
+
+    /// Writes a text into a column of a row, in place.
+    pub fn set_text(&mut self, at: u32, schema: &Schema, column: usize, offset: usize, text: &[u8]) {
+        set_text_at(&mut self.head, at, schema, column, offset, text);
+    }
+}
+
+fn set_number_at(row: &mut Row, at: u32, schema: &Schema, column: usize, offset: usize, n: i64) {
+    if at == 0 {
+        row.set_number(schema, column, offset, n);
+        return;
+    }
+    let Some(mut next) = row.set_next(None) else {
+        return;
+    };
+    set_number_at(&mut next, at - 1, schema, column, offset, n);
+    row.set_next(Some(next));
+}
+
+fn set_text_at(row: &mut Row, at: u32, schema: &Schema, column: usize, offset: usize, text: &[u8]) {
+    if at == 0 {
+        row.set_text(schema, column, offset, text);
+        return;
+    }
+    let Some(mut next) = row.set_next(None) else {
+        return;
+    };
+    set_text_at(&mut next, at - 1, schema, column, offset, text);
+    row.set_next(Some(next));
 }

@@ -3,5 +3,7 @@
 #![tactic(auto)]
 
 mod chain;
+mod parted;
+mod walk;
 
 pub use chain::Chain;

@@ -1,5 +1,5 @@
 //! What a row holds, in place.
-ghost use Rattle.std.specs.Prelude.{◌≡◌, ◌<◌, length, slice_get, slice_set, Some, IsTrue, IfSome};
+ghost use Rattle.std.specs.Prelude.{◌≡◌, ◌<◌, length, take, slice_get, slice_set, Some, IsTrue, IfSome};
 ghost use Rattle.sw_data.specs.declared.table.Value.TheVariants as values;
 ghost use Rattle.sw_column.specs.declared.column.Kind.TheVariants as kinds;
 ghost use Rattle.sw_column.specs.Fit.{is_key};
@@ -7,7 +7,7 @@ ghost use Rattle.sw_column.specs.Values.{HasKinds, IsRow, holds};
 ghost use Rattle.sw_row.specs.Layout.{kept, offset_of};
 ghost use Rattle.sw_row.specs.Packed.{unpacked};
 
-use crate::bytes::{number, put_number};
+use crate::bytes::{TEXT_HEAD, number, put_number, put_text};
 use crate::packing::{pack, unpack};
 use std::marker::Model;
 use std::snapshot::Snapshot;
@@ -112,5 +112,18 @@ impl Content {
         schema.is_sound();
         let size = schema.at(at).size;
         put_number(&mut self.bytes[offset..offset + size as usize], size, n);
+    }
+
+    /// Writes a text into a column, whose bytes begin at the offset. It is cut at the column's size.
+    pub fn set_text(&mut self, schema: &Schema, at: usize, offset: usize, text: &[u8])
+        requires packed { self.old.columns ≡ schema.now }
+        requires place { at < length schema.now }
+        requires kind { IfSome (slice_get schema.now at) (λ c. c.kind ≡ kinds.Text) }
+        requires offset { offset ≡ offset_of schema.now at }
+        ensures { IfSome (slice_get schema.now at) (λ c. self.new ≡ record self.old { values = slice_set self.old.values at (values.Text (take c.size text.now)) }) }
+    {
+        schema.is_sound();
+        let size = schema.at(at).size;
+        put_text(&mut self.bytes[offset..offset + size as usize + TEXT_HEAD], text);
     }
 }

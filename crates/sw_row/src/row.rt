@@ -1,5 +1,5 @@
 //! A row with a place for one boxed row behind it.
-ghost use Rattle.std.specs.Prelude.{◌≡◌, ◌<◌, ◌≤◌, ◌∷◌, [], length, slice_get, slice_set, Some, IsTrue, IfSome, IfNone};
+ghost use Rattle.std.specs.Prelude.{◌≡◌, ◌<◌, ◌≤◌, ◌∷◌, [], length, take, slice_get, slice_set, Some, IsTrue, IfSome, IfNone};
 ghost use Rattle.sw_data.specs.declared.table.Value.TheVariants as values;
 ghost use Rattle.sw_column.specs.declared.column.Kind.TheVariants as kinds;
 ghost use Rattle.sw_column.specs.Fit.{is_key};
@@ -105,6 +105,17 @@ impl Row {
         ensures { self.new ≡ record self.old { here = record self.old.here { values = slice_set self.old.here.values at (values.Int n) } } }
     {
         self.content.set_number(schema, at, offset, n);
+    }
+
+    /// Writes a text into a column, and nothing else. It is cut at the column's size. `offset` is where the column's bytes begin.
+    pub fn set_text(&mut self, schema: &Schema, at: usize, offset: usize, text: &[u8])
+        requires packed { self.old.here.columns ≡ schema.now }
+        requires place { at < length schema.now }
+        requires kind { IfSome (slice_get schema.now at) (λ c. c.kind ≡ kinds.Text) }
+        requires offset { offset ≡ offset_of schema.now at }
+        ensures { IfSome (slice_get schema.now at) (λ c. self.new ≡ record self.old { here = record self.old.here { values = slice_set self.old.here.values at (values.Text (take c.size text.now)) } }) }
+    {
+        self.content.set_text(schema, at, offset, text);
     }
 
     /// Puts another row in the place behind this one, and gives the one that stood there back.

@@ -284,6 +284,15 @@ impl<B: Drop, P: Drop, C: Called<B, P>> RowLocks<B, P, C> {
             .store::<GivesRow>(&mut seat.place, word_of(at), 0);
     }
 
+    /// Loads the sequence word: how many calls were drawn, and how many rows there are.
+    pub fn count(&self, seat: &mut Seat<B, P, C>) -> Drawn {
+        let found = self.look(seat);
+        Drawn {
+            at: found / ONE_CALL,
+            rows: found % ONE_CALL,
+        }
+    }
+
     // Loads the sequence word.
     fn look(&self, seat: &mut Seat<B, P, C>) -> u64
         requires seat { IsSeatOf self.now seat.old }

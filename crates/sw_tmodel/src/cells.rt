@@ -40,6 +40,21 @@ fn put(cell: &mut Cell, value: &Value)
     }
 }
 
+/// Copies the value of another cell of its kind.
+fn copy(cell: &mut Cell, from: &Cell) {
+    match from {
+        Cell::Int(n) => cell.put_int(*n),
+        Cell::Text(text) => cell.put_text(text.text()),
+    }
+}
+
+/// Copies the values of a buffer.
+pub fn fill(cells: &mut [Cell], row: &RowBuf) {
+    for at in 0..row.len() {
+        copy(&mut cells[at], row.cell(at));
+    }
+}
+
 /// Writes a value that fits in the cell of its column.
 pub fn put_pair(cells: &mut [Cell], schema: &Schema, name: &[u8], value: &Value)
     requires cells { AreCells schema.now cells.old }

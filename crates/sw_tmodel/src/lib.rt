@@ -10,7 +10,7 @@ mod rows;
 mod steps;
 mod store;
 
-pub use plain::Plain;
+pub use plain::{Plain, raised};
 
 #[cfg(test)]
 mod tests;

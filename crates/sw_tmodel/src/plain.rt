@@ -88,6 +88,18 @@ impl Plain {
         Ok(Placed { at, reply })
     }
 
+    /// Puts a row in for a missing key that finds room. It is no call.
+    pub fn put_row(&mut self, key: &[u8], row: &RowBuf) {
+        let at = self.store.len();
+        self.store.add(key);
+        self.store.fill(at, row);
+    }
+
+    /// So many calls had a place.
+    pub fn set_calls(&mut self, calls: u64) {
+        self.calls = calls;
+    }
+
     /// The columns, lent.
     pub fn schema(&self) -> &Schema
         ensures { result.now ≡ self.now.columns }
@@ -104,8 +116,8 @@ impl Plain {
     }
 }
 
-/// The size of a Table that is asked to have so many buckets.
-fn raised(size: u32) -> u32
+/// The size of a Table that is asked to have so many buckets: the least power of two that is enough, at least 64.
+pub fn raised(size: u32) -> u32
     requires { size ≤ 524288 }
     ensures value { result ≡ raised size }
     ensures least { 64 ≤ result }

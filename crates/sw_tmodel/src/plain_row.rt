@@ -10,7 +10,7 @@ ghost use Rattle.sw_column.specs.Values.{blank, HasKinds};
 ghost use Rattle.sw_table_laws.specs.Rows.{with_pairs, with_value, number_of};
 ghost use Rattle.sw_tmodel.specs.PlainRows.{AreCells, IsShaped, IsAt, entry_of};
 
-use crate::cells::{clear, number, put_pair, put_pairs, show};
+use crate::cells::{fill, clear, number, put_pair, put_pairs, show};
 use std::alloc::Global;
 use sw_column::{Cell, RowBuf, Schema, TextBuf};
 use sw_data::{OutOfMemory, Pairs, Value};
@@ -77,6 +77,11 @@ impl PlainRow {
         ensures { result ≡ number_of schema.now (entry_of self.now).1 name.now }
     {
         number(&self.cells, schema, name)
+    }
+
+    /// Writes the values of a buffer.
+    pub fn fill(&mut self, row: &RowBuf) {
+        fill(&mut self.cells, row);
     }
 
     /// Writes the row into a buffer.

@@ -100,6 +100,11 @@ impl Rows {
         self.rows[at].number(&self.schema, name)
     }
 
+    /// Writes the values of a buffer into a row.
+    pub fn fill(&mut self, at: usize, row: &RowBuf) {
+        self.rows[at].fill(row);
+    }
+
     /// Writes a row into a buffer.
     pub fn show(&self, at: usize, row: &mut RowBuf)
         requires place { at < length self.now.entries }

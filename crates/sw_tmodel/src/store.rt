@@ -141,6 +141,11 @@ impl Store {
         self.rows.number(at, name)
     }
 
+    /// Writes the values of a buffer into a row.
+    pub fn fill(&mut self, at: usize, row: &RowBuf) {
+        self.rows.fill(at, row);
+    }
+
     /// Writes a row into a buffer.
     pub fn show(&self, at: usize, row: &mut RowBuf)
         requires place { at < length self.now.entries }
