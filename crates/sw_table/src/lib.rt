@@ -7,8 +7,8 @@
 
 mod bucket;
 mod calls;
-mod close;
-mod create;
+mod closing;
+mod creating;
 mod desk;
 mod hands;
 mod key;
@@ -20,8 +20,8 @@ mod work;
 
 pub use bucket::Bucket;
 pub use calls::TableCalls;
-pub use close::{CloseFault, close};
-pub use create::create;
+pub use closing::{CloseFault, close};
+pub use creating::create;
 pub use desk::Desk;
 pub use hands::{Hands, Note};
 pub use locks::Locks;
