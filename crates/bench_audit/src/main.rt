@@ -1,7 +1,7 @@
-// Measures how long a trace of calls takes to be audited.
-//
-// With no argument it audits a small trace and prints its verdict. With the word `bench` it prints the milliseconds of
-// traces of 25,000, 50,000 and 100,000 calls over 256 keys, and the nanoseconds a call.
+//! Measures how long a trace of calls takes to be audited.
+//!
+//! With no argument it audits a small trace and prints its verdict. With the word `bench` it prints the milliseconds of
+//! traces of 25,000, 50,000 and 100,000 calls over 256 keys, and the nanoseconds a call.
 #![tactic(auto)]
 
 mod figures;

@@ -7,9 +7,9 @@ use std::alloc::Global;
 use std::thread::Threads;
 use std::time::{Clock, Instant};
 use std::{io, thread};
+use sw_base::{Counter, OutOfMemory};
 use sw_board::make;
-use sw_data::{Counter, OutOfMemory};
-use sw_ports::{Board, Crew};
+use sw_port_board::{Board, Crew};
 
 const ACTORS: u32 = 4;
 

@@ -1,7 +1,7 @@
-// Measures an add, a mark and a sum at a board, beside a bare atomic add in the same run.
-//
-// With no argument it runs a small fixed load and prints what was counted. With the word `bench` it prints
-// nanoseconds a call: alone, and with four threads that each work on words of their own.
+//! Measures an add, a mark and a sum at a board, beside a bare atomic add in the same run.
+//!
+//! With no argument it runs a small fixed load and prints what was counted. With the word `bench` it prints
+//! nanoseconds a call: alone, and with four threads that each work on words of their own.
 #![tactic(auto)]
 
 mod bare;

@@ -1,7 +1,7 @@
 //! One thread at a board.
+use sw_base::Counter;
 use sw_board::Seat;
-use sw_data::Counter;
-use sw_ports::Board;
+use sw_port_board::Board;
 
 /// One thread's seat, and what its last sum answered.
 #[derive(Drop)]

@@ -5,8 +5,8 @@ use std::alloc::Global;
 use std::thread::Threads;
 use std::time::{Clock, Instant};
 use std::{io, thread};
-use sw_data::OutOfMemory;
-use sw_ports::{Desk, Ticketed};
+use sw_base::OutOfMemory;
+use sw_port_book::{Desk, Ticketed};
 use sw_sessions::make;
 
 // Four players of one book, each with a live session in a slot beside the others'.

@@ -1,7 +1,7 @@
-// Measures a look and a bind of a session book, beside a bare atomic load and compare-exchange in the same run.
-//
-// With no argument it runs a small fixed load and prints what was answered. With the word `bench` it prints
-// nanoseconds a call: alone, and with four threads that each work on a word of their own.
+//! Measures a look and a bind of a session book, beside a bare atomic load and compare-exchange in the same run.
+//!
+//! With no argument it runs a small fixed load and prints what was answered. With the word `bench` it prints
+//! nanoseconds a call: alone, and with four threads that each work on a word of their own.
 #![tactic(auto)]
 
 mod bare;

@@ -1,6 +1,6 @@
 //! One thread at a book.
-use sw_data::Session;
-use sw_ports::{Book, Look};
+use sw_base::Session;
+use sw_port_book::{Book, Look};
 use sw_sessions::{Pass, Ticket};
 
 /// One thread's pass, its own live session with the ticket that keeps it alive, and what its calls answered.

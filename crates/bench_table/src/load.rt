@@ -5,8 +5,8 @@ ghost use Rattle.sw_column.specs.Values.{HasKinds};
 use std::alloc::Global;
 use std::io;
 use std::time::{Clock, Instant};
+use sw_base::{Call, Key, Name, OutOfMemory, Reply};
 use sw_column::{ColumnFault, Kind, RowBuf, Schema};
-use sw_data::{Call, Key, Name, OutOfMemory, Reply};
 use sw_tmodel::Plain;
 
 /// How many calls are measured at each number of rows.

@@ -1,7 +1,7 @@
-// Measures how long the plain Table takes to count up in a row that is there.
-//
-// With no argument it counts up in a small Table and prints what came of it. With the word `bench` it prints nanoseconds
-// a call, at 256 and at 4,096 rows.
+//! Measures how long the plain Table takes to count up in a row that is there.
+//!
+//! With no argument it counts up in a small Table and prints what came of it. With the word `bench` it prints nanoseconds
+//! a call, at 256 and at 4,096 rows.
 #![tactic(auto)]
 
 mod load;

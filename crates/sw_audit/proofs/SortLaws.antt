@@ -4,8 +4,8 @@ use Rattle.std.specs.Ordering.{nat_cmp, is_lt}
 use Rattle.std.specs.List.Sorted.{IsStableByKey, ties}
 use Rattle.std.proofs.lemmas.Bool.{lt-ltb, le-ltb, eq-eqb, ne_eqb, cases_order}
 use Rattle.std.proofs.lemmas.List.Elements.{filter_agree}
-use Rattle.sw_data.specs.declared.table.Call.TheVariants as calls
-use Rattle.sw_data.specs.declared.table.Reply.TheVariants as replies
+use Rattle.sw_base.specs.declared.table.Call.TheVariants as calls
+use Rattle.sw_base.specs.declared.table.Reply.TheVariants as replies
 use Rattle.sw_audit.specs.Verdicts.{lines_at}
 use Rattle.sw_audit.specs.declared.trace.TraceLine.{TraceLine}
 

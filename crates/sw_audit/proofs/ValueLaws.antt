@@ -4,25 +4,25 @@ use Rattle.std.proofs.lemmas.List.{same_lists}
 use Rattle.std.proofs.lemmas.Option.{slice_get-get_or}
 use Rattle.std.proofs.lemmas.Slice.Eq.{bytes_eq-Decides}
 use Rattle.std.proofs.lemmas.Bool.Decides.{Decides-int_eq}
-use Rattle.sw_data.specs.declared.table.Value.{Value}
-use Rattle.sw_data.specs.declared.table.Value.TheVariants.{Int, Text}
-use Rattle.sw_data.specs.declared.table.Call.{Call}
-use Rattle.sw_data.specs.declared.table.Call.TheVariants.{Set, Get, Exist, Del, Incr, Decr, Count}
-use Rattle.sw_data.specs.declared.table.CallFault.{CallFault}
-use Rattle.sw_data.specs.declared.table.CallFault.TheVariants.{Spent}
+use Rattle.sw_base.specs.declared.table.Value.{Value}
+use Rattle.sw_base.specs.declared.table.Value.TheVariants.{Int, Text}
+use Rattle.sw_base.specs.declared.table.Call.{Call}
+use Rattle.sw_base.specs.declared.table.Call.TheVariants.{Set, Get, Exist, Del, Incr, Decr, Count}
+use Rattle.sw_base.specs.declared.table.CallFault.{CallFault}
+use Rattle.sw_base.specs.declared.table.CallFault.TheVariants.{Spent}
 use Rattle.sw_column.specs.Fit.{call_fault, or_else, fits}
 use Rattle.sw_table_laws.specs.Table.{Shape, State, Step, TStep, answers, set_step, get_step, del_step, add_step, add, may_write, row_of}
 use Rattle.sw_table_laws.specs.Rows.{with_value, with_pairs, number_of, size_of}
 use Rattle.std.specs.FinMap as map_of
-use Rattle.sw_data.specs.declared.table.Reply.TheVariants.{Yes, No}
-use Rattle.sw_data.specs.declared.table.Value.TheVariants as values
+use Rattle.sw_base.specs.declared.table.Reply.TheVariants.{Yes, No}
+use Rattle.sw_base.specs.declared.table.Value.TheVariants as values
 use Rattle.std.proofs.lemmas.Bool.{ne_eqb}
 use Rattle.sw_tmodel.specs.Plain.{PlainTable, plain_fault}
 use Rattle.sw_table_laws.specs.Table.{shown}
 use Rattle.sw_audit.specs.Judging.{is_same, shown_by, HasReply}
 use Rattle.sw_audit.specs.Verdicts.{Tells}
 use Rattle.sw_audit.specs.declared.trace.TraceLine.{TraceLine}
-use Rattle.sw_data.specs.declared.table.Reply.{Reply}
+use Rattle.sw_base.specs.declared.table.Reply.{Reply}
 
 -- ---- equal values
 

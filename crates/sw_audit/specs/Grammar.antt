@@ -3,8 +3,8 @@ use Rattle.std.specs.Str.{bytes_eq}
 use Rattle.sw_text.specs.Then.{◌>>=◌}
 use Rattle.sw_text.specs.Numbers.{number_of, number_within}
 use Rattle.sw_text.specs.Parts.{part_at, lines_of}
-use Rattle.sw_data.specs.declared.table.Call.{Call}
-use Rattle.sw_data.specs.declared.table.CallFault.{CallFault}
+use Rattle.sw_base.specs.declared.table.Call.{Call}
+use Rattle.sw_base.specs.declared.table.CallFault.{CallFault}
 use Rattle.sw_column.specs.declared.column.Column.{Column}
 use Rattle.sw_column.specs.Fit.{call_fault}
 use Rattle.sw_call.specs.declared.column_texts.Refused.{Refused}

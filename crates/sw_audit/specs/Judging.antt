@@ -1,10 +1,10 @@
 use Rattle.std.specs.Prelude.{◌≡◌, ℕ, ◌<◌, ◌≤◌, List, [], length, drop, slice_get, slice_index_or, Option, Some, None, Bool, true, false, nat_lt, if◌then◌else◌}
 use Rattle.std.specs.Ordering.{int_eq}
 use Rattle.std.specs.Str.{bytes_eq}
-use Rattle.sw_data.specs.declared.table.Value.{Value}
-use Rattle.sw_data.specs.declared.table.Value.TheVariants as values
-use Rattle.sw_data.specs.declared.table.Reply.{Reply}
-use Rattle.sw_data.specs.declared.table.Reply.TheVariants as replies
+use Rattle.sw_base.specs.declared.table.Value.{Value}
+use Rattle.sw_base.specs.declared.table.Value.TheVariants as values
+use Rattle.sw_base.specs.declared.table.Reply.{Reply}
+use Rattle.sw_base.specs.declared.table.Reply.TheVariants as replies
 use Rattle.sw_table_laws.specs.Table.{after}
 use Rattle.sw_tmodel.specs.Plain.{PlainTable, shape_of}
 use Rattle.sw_audit.specs.Verdicts.{lines_at, calls_below}

@@ -1,4 +1,4 @@
-// Whether a line tells what the plain Table answers.
+//! Whether a line tells what the plain Table answers.
 
 ghost use Rattle.std.specs.Prelude.{◌≡◌, ◌+◌, ◌<◌, None, MatchBool, [], length};
 ghost use Rattle.sw_column.specs.Cells.{cell_value};
@@ -10,9 +10,9 @@ ghost use Rattle.sw_audit.specs.Judging.{is_same, shown_by, HasReply};
 ghost use Rattle.sw_audit.specs.Verdicts.{Tells};
 
 use crate::trace::TraceLine;
+use sw_base::{Cells, Reply, Value};
 use sw_call::Replied;
 use sw_column::{Cell, RowBuf};
-use sw_data::{Cells, Reply, Value};
 use sw_tmodel::Plain;
 
 fn is_number(n: i64, value: &Value) -> bool

@@ -1,4 +1,4 @@
-// A text audited.
+//! A text audited.
 
 ghost use Rattle.sw_audit.specs.Verdicts.{IsAudit};
 

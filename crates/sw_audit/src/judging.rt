@@ -1,4 +1,4 @@
-// The verdict on a trace: its calls are made on a plain Table in the order of their places.
+//! The verdict on a trace: its calls are made on a plain Table in the order of their places.
 
 ghost use Rattle.std.specs.Prelude.{◌≡◌, ◌+◌, ◌<◌, ◌≤◌, None, Some, All, IfOk, length, MatchBool, ℕ, IsPermutation};
 ghost use Rattle.std.specs.Bool.{OnTrue};
@@ -17,8 +17,8 @@ use crate::late::{first_late, lesser};
 use crate::trace::{Trace, TraceLine, TraceLines};
 use crate::verdict::Verdict;
 use std::alloc::Global;
+use sw_base::OutOfMemory;
 use sw_column::RowBuf;
-use sw_data::OutOfMemory;
 use sw_tmodel::Plain;
 
 /// The most calls that a Table can have.

@@ -1,4 +1,4 @@
-// Whether a caller's places rise, in the order in which its lines were written.
+//! Whether a caller's places rise, in the order in which its lines were written.
 
 ghost use Rattle.std.specs.Prelude.{◌≡◌, ℕ, Some, None, IfOk, nat_eq};
 ghost use Rattle.std.specs.HashMap.{get};
@@ -8,7 +8,7 @@ ghost use Rattle.sw_audit.specs.Judging.{IsLeast, lesser, is_below, with_late, k
 use crate::trace::TraceLine;
 use std::alloc::Global;
 use std::collections::HashMap;
-use sw_data::OutOfMemory;
+use sw_base::OutOfMemory;
 
 /// The smaller of two places that may be absent.
 pub fn lesser(a: Option<u64>, b: Option<u64>) -> Option<u64>

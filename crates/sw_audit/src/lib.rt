@@ -1,5 +1,5 @@
-// Traces of calls of the Table, and whether the Table's definition gives their replies. Stands above the plain Table and the
-// text of calls, and below the top call.
+//! Traces of calls of the Table, and whether the Table's definition gives their replies. Stands above the plain Table and the
+//! text of calls, and below the top call.
 #![tactic(auto)]
 
 mod answers;

@@ -1,11 +1,11 @@
-// A verdict as a text.
+//! A verdict as a text.
 
 ghost use Rattle.std.specs.Prelude.{◌≡◌, IfOk, string_bytes};
 ghost use Rattle.sw_audit.specs.Printing.{verdict_text};
 
 use crate::verdict::Verdict;
 use std::alloc::Global;
-use sw_data::OutOfMemory;
+use sw_base::OutOfMemory;
 
 /// The line that tells a verdict: `ok` and the number of calls, or `no` and the bad place.
 pub fn print(alloc: Global, verdict: Verdict) -> Result<String, OutOfMemory>

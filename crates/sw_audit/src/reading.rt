@@ -1,4 +1,4 @@
-// A trace read whole, line by line.
+//! A trace read whole, line by line.
 
 ghost use Rattle.std.specs.Prelude.{◌≡◌, ℕ, ◌-◌, List, Option, Some, None, Ok, IfOk, IfSome, length, take, nat_eq, slice_index, ◌≤◌, if◌then◌else◌};
 ghost use Rattle.sw_text.specs.Parts.{lines_of};
@@ -11,9 +11,9 @@ ghost use Rattle.sw_audit.specs.Reading.{IsRead};
 
 use crate::trace::{Trace, TraceLine, TraceLines};
 use std::alloc::Global;
+use sw_base::{Call, OutOfMemory};
 use sw_call::{Columns, call, columns, reply, schema};
 use sw_column::Schema;
-use sw_data::{Call, OutOfMemory};
 use sw_text::{is, next_line, number, number_within, part};
 
 #[tactic(auto, unfolding(crate::specs::Grammar::behind_word))]

@@ -1,12 +1,8 @@
-// A trace: the Table that it speaks of, and its calls in the order in which they were written down.
+//! A trace: the Table that it speaks of, and its calls in the order in which they were written down.
 
-ghost use Rattle.std.specs.Prelude.{◌≡◌, [], ◌∷◌, ◌++◌, length, OnOk, OnErr};
-
-use std::alloc::Global;
-use std::marker::Model;
+use sw_base::{Call, Items};
 use sw_call::Replied;
 use sw_column::Schema;
-use sw_data::{Call, OutOfMemory};
 
 /// A line of a trace: a call with its place among all calls, who made it, and what it came to.
 #[derive(Drop)]
@@ -20,53 +16,7 @@ pub struct TraceLine {
 }
 
 /// The lines of a trace, in order.
-#[derive(Drop)]
-pub struct TraceLines {
-    items: Vec<TraceLine>,
-}
-
-impl Model for TraceLines {
-    ghost use Rattle.std.specs.Prelude.{List};
-    ghost use Rattle.sw_audit.specs.declared.trace.TraceLine.{TraceLine};
-
-    ghost Value = { List TraceLine };
-
-    ghost view = { λ l. l.items.items };
-}
-
-impl TraceLines {
-    /// No line. It takes no memory.
-    pub fn new(alloc: Global) -> TraceLines
-        ensures { result ≡ [] }
-    {
-        TraceLines {
-            items: Vec::new(alloc),
-        }
-    }
-
-    /// One line more at the end. At `OutOfMemory` the lines are as before, and this one is dropped.
-    pub fn push(&mut self, line: TraceLine) -> Result<(), OutOfMemory>
-        ensures ok { OnOk result (self.new ≡ self.old ++ line ∷ []) }
-        ensures err { OnErr result (self.new ≡ self.old) }
-    {
-        self.items.push(line)?;
-        Ok(())
-    }
-
-    /// The lines, lent.
-    pub fn as_slice(&self) -> &[TraceLine]
-        ensures { result.now ≡ self.now }
-    {
-        self.items.as_slice()
-    }
-
-    /// The lines, given away.
-    pub fn into_vec(self) -> Vec<TraceLine>
-        ensures { result.items ≡ self }
-    {
-        self.items
-    }
-}
+pub type TraceLines = Items<TraceLine>;
 
 /// What a trace says.
 #[derive(Drop)]

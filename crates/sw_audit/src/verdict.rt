@@ -1,5 +1,5 @@
-// What an audit answers.
-use sw_data::OutOfMemory;
+//! What an audit answers.
+use sw_base::OutOfMemory;
 
 /// What a trace comes to.
 #[derive(Clone, Copy, Debug, PartialEq, Eq)]

@@ -1,4 +1,4 @@
-// Traces audited, and their verdicts compared.
+//! Traces audited, and their verdicts compared.
 
 use std::alloc::Global;
 use std::process::Abort;

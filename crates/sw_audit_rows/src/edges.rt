@@ -1,4 +1,4 @@
-// Texts at the edges of what a trace may be.
+//! Texts at the edges of what a trace may be.
 
 use crate::auditing::audits;
 use std::alloc::{AllocError, Global};

@@ -1,4 +1,4 @@
-// Traces with their verdicts, written out by hand from what the Table promises.
+//! Traces with their verdicts, written out by hand from what the Table promises.
 #![tactic(auto)]
 
 #[cfg(test)]

@@ -1,4 +1,4 @@
-// Whole traces: the bucket and its pool, the range of a column, and each reason for a place to be bad.
+//! Whole traces: the bucket and its pool, the range of a column, and each reason for a place to be bad.
 
 use crate::auditing::audits;
 use std::test::Fail;

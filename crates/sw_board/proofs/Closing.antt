@@ -3,10 +3,10 @@ use Rattle.std.proofs.Common.{◌≡◌, ◌<◌, ◌≤◌, ◌+◌, ◌⊎◌,
 use Rattle.std.proofs.lemmas.List.Sums.{sum_by-append}
 use mathlib.Core.Logic.{dite}
 use native.Mathlib.Decide.{ℕ_discrete, dec_le}
-use Rattle.sw_data.specs.declared.events.Counter.{Counter}
-use Rattle.sw_ports.specs.declared.board.BoardStep.{BoardStep}
-use Rattle.sw_ports.specs.declared.board.BoardStep.TheVariants.{Marked, Stopped, Read}
-use Rattle.sw_ports.specs.Board.{In, capped, added, AllAgree, reads_from, reads}
+use Rattle.sw_base.specs.declared.counter.Counter.{Counter}
+use Rattle.sw_port_board.specs.declared.board.BoardStep.{BoardStep}
+use Rattle.sw_port_board.specs.declared.board.BoardStep.TheVariants.{Marked, Stopped, Read}
+use Rattle.sw_port_board.specs.Board.{In, capped, added, AllAgree, reads_from, reads}
 use Rattle.sw_board.specs.declared.rule.Log.{Log}
 use Rattle.sw_board.specs.Rule.{log, added_in, Settled}
 use Rattle.sw_board.specs.Values.{SeatNow}

@@ -8,10 +8,10 @@ use native.Mathlib.Decide.{ℕ_discrete}
 use lib.ListN.{get_elem?}
 use Rattle.atomic_table.specs.Table.{State, Me, keeps, opening, Allows}
 use Rattle.atomic_table.proofs.Lists.{set_again}
-use Rattle.sw_data.specs.declared.events.Counter.{Counter}
-use Rattle.sw_ports.specs.declared.board.BoardStep.{BoardStep}
-use Rattle.sw_ports.specs.declared.board.BoardStep.TheVariants.{Found, SawStop, Read}
-use Rattle.sw_ports.specs.Board.{In, added, knows_stop, AllAgree, reads_from}
+use Rattle.sw_base.specs.declared.counter.Counter.{Counter}
+use Rattle.sw_port_board.specs.declared.board.BoardStep.{BoardStep}
+use Rattle.sw_port_board.specs.declared.board.BoardStep.TheVariants.{Found, SawStop, Read}
+use Rattle.sw_port_board.specs.Board.{In, added, knows_stop, AllAgree, reads_from}
 use Rattle.sw_board.specs.declared.rule.Log.{Log}
 use Rattle.sw_board.specs.declared.rule.View.{View}
 use Rattle.sw_board.specs.Rule.{log, dealer, holder, words_of, sum_below, parts, added_in, Told, Has, Fits, Kept, Settled}

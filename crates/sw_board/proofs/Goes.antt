@@ -1,9 +1,9 @@
 -- What a seat's steps come to, one behind another.
 use Rattle.std.proofs.Common.{◌≡◌, ◌+◌, ℕ, List, [], ◌∷◌, ◌++◌, length, sym, ap, ◌∙◌, subst, append_assoc, append-nil, arith}
-use Rattle.sw_data.specs.declared.events.Counter.{Counter}
-use Rattle.sw_ports.specs.declared.board.BoardStep.{BoardStep}
-use Rattle.sw_ports.specs.declared.board.BoardStep.TheVariants.{Read}
-use Rattle.sw_ports.specs.Board.{Agrees, reads_from}
+use Rattle.sw_base.specs.declared.counter.Counter.{Counter}
+use Rattle.sw_port_board.specs.declared.board.BoardStep.{BoardStep}
+use Rattle.sw_port_board.specs.declared.board.BoardStep.TheVariants.{Read}
+use Rattle.sw_port_board.specs.Board.{Agrees, reads_from}
 use Rattle.sw_board.specs.Values.{SeatNow, SeatGoes, seat_now}
 use Rattle.sw_board.proofs.Logs.{agree_snoc}
 

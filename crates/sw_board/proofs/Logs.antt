@@ -2,10 +2,10 @@
 use Rattle.std.proofs.Common.{◌≡◌, ◌≤◌, ◌+◌, ◌||◌, ◌⊎◌, inl, inr, ℕ, Bool, true, false, true≢false, List, [], ◌∷◌, ◌++◌, sym, refl, ap, ◌∙◌, subst, append_assoc, append-nil, ⊎_elim, arith}
 use mathlib.Core.Logic.{dite}
 use native.Mathlib.Decide.{ℕ_discrete}
-use Rattle.sw_data.specs.declared.events.Counter.{Counter}
-use Rattle.sw_ports.specs.declared.board.BoardStep.{BoardStep}
-use Rattle.sw_ports.specs.declared.board.BoardStep.TheVariants.{Marked, Found, Stopped, SawStop, Added, Read}
-use Rattle.sw_ports.specs.Board.{In, adds, added, mark_after, mark_from, shows_stop, knows_stop, Agrees, AllAgree}
+use Rattle.sw_base.specs.declared.counter.Counter.{Counter}
+use Rattle.sw_port_board.specs.declared.board.BoardStep.{BoardStep}
+use Rattle.sw_port_board.specs.declared.board.BoardStep.TheVariants.{Marked, Found, Stopped, SawStop, Added, Read}
+use Rattle.sw_port_board.specs.Board.{In, adds, added, mark_after, mark_from, shows_stop, knows_stop, Agrees, AllAgree}
 use Rattle.sw_board.specs.Rule.{Told}
 use Rattle.sw_board.proofs.Moves.{put, put_here, put_else, in_longer}
 

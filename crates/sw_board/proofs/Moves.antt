@@ -5,7 +5,7 @@ use mathlib.Core.Logic.{dite}
 use native.Mathlib.Decide.{ℕ_discrete}
 use lib.ListN.{get_elem?}
 use Rattle.atomic_table.proofs.Lists.{at_set}
-use Rattle.sw_ports.specs.Board.{In}
+use Rattle.sw_port_board.specs.Board.{In}
 use Rattle.sw_board.specs.declared.rule.View.{View}
 use Rattle.sw_board.specs.Rule.{total, sum_below}
 

@@ -6,10 +6,10 @@ use native.Mathlib.Decide.{ℕ_discrete}
 use lib.ListN.{get_elem?}
 use Rattle.atomic_table.specs.Table.{State}
 use Rattle.atomic_table.proofs.Lists.{set_here, set_else}
-use Rattle.sw_data.specs.declared.events.Counter.{Counter}
-use Rattle.sw_ports.specs.declared.board.BoardStep.{BoardStep}
-use Rattle.sw_ports.specs.declared.board.BoardStep.TheVariants.{Stopped}
-use Rattle.sw_ports.specs.Board.{In, capped, one_if, adds, added, mark_after, is_idle_after, shows_stop, knows_stop, Agrees, AllAgree}
+use Rattle.sw_base.specs.declared.counter.Counter.{Counter}
+use Rattle.sw_port_board.specs.declared.board.BoardStep.{BoardStep}
+use Rattle.sw_port_board.specs.declared.board.BoardStep.TheVariants.{Stopped}
+use Rattle.sw_port_board.specs.Board.{In, capped, one_if, adds, added, mark_after, is_idle_after, shows_stop, knows_stop, Agrees, AllAgree}
 use Rattle.sw_board.specs.declared.rule.Log.{Log}
 use Rattle.sw_board.specs.declared.rule.View.{View}
 use Rattle.sw_board.specs.Rule.{log, seat, count_word, idle_word, parts, added_in, Told, Has, Fits, Kept}

@@ -1,8 +1,8 @@
 -- Which word is whose.
 use Rattle.std.proofs.Common.{◌≡◌, ◌≢◌, ◌<◌, ◌==◌, ℕ, zero, suc, Bool, true, false, sym, refl, ap, ◌∙◌, arith}
-use Rattle.sw_data.specs.declared.events.Counter.{Counter}
-use Rattle.sw_data.specs.declared.events.Counter.TheVariants.{Accepted, Ended, Packets, Sends, Tasks, Finishes}
-use Rattle.sw_ports.specs.Board.{counter_number, one_if}
+use Rattle.sw_base.specs.declared.counter.Counter.{Counter}
+use Rattle.sw_base.specs.declared.counter.Counter.TheVariants.{Accepted, Ended, Packets, Sends, Tasks, Finishes}
+use Rattle.sw_port_board.specs.Board.{counter_number, one_if}
 use Rattle.sw_board.specs.Rule.{count_word, idle_word, words_of}
 
 pub number_low : (c : Counter) → counter_number c < 6

@@ -7,7 +7,7 @@ use lib.ListN.{get_elem?}
 use Rattle.std.proofs.lemmas.List.{length-set}
 use Rattle.atomic_table.specs.Table.{Splits, Joins}
 use Rattle.atomic_table.proofs.Lists.{at_longer, at_last, set_here, set_else}
-use Rattle.sw_data.specs.declared.events.Counter.{Counter}
+use Rattle.sw_base.specs.declared.counter.Counter.{Counter}
 use Rattle.sw_board.specs.declared.rule.Log.{Log}
 use Rattle.sw_board.specs.declared.rule.View.{View}
 use Rattle.sw_board.specs.Rule.{log, dealer, holder, seat, parts, added_in, Has, Fits, Kept}

@@ -7,10 +7,10 @@ use native.Mathlib.Decide.{ℕ_discrete}
 use lib.ListN.{get_elem?}
 use Rattle.atomic_table.specs.Table.{State, Me, keeps, Allows}
 use Rattle.atomic_table.proofs.Lists.{set_again}
-use Rattle.sw_data.specs.declared.events.Counter.{Counter}
-use Rattle.sw_ports.specs.declared.board.BoardStep.{BoardStep}
-use Rattle.sw_ports.specs.declared.board.BoardStep.TheVariants.{Marked, Found, Stopped, SawStop, Added, Read}
-use Rattle.sw_ports.specs.Board.{In, capped, one_if, adds, added, counter_number, mark_after, mark_from, is_idle_after, shows_stop, knows_stop, Agrees}
+use Rattle.sw_base.specs.declared.counter.Counter.{Counter}
+use Rattle.sw_port_board.specs.declared.board.BoardStep.{BoardStep}
+use Rattle.sw_port_board.specs.declared.board.BoardStep.TheVariants.{Marked, Found, Stopped, SawStop, Added, Read}
+use Rattle.sw_port_board.specs.Board.{In, capped, one_if, adds, added, counter_number, mark_after, mark_from, is_idle_after, shows_stop, knows_stop, Agrees}
 use Rattle.sw_board.specs.declared.rule.View.{View}
 use Rattle.sw_board.specs.Rule.{log, seat, logged, Matches, actor_of, steps_of, count_word, idle_word, Told, Kept}
 use Rattle.sw_board.proofs.Logs.{told_more}

@@ -1,9 +1,9 @@
 -- What the steps of all seats of a board have to do with one another.
 use Rattle.std.specs.Prelude.{◌≡◌, ℕ, ◌+◌, ◌-◌, ◌^◌, ◌≤◌, ◌⊎◌, All, sum, true, List, [], ◌∷◌, ◌++◌, length}
-use Rattle.sw_data.specs.declared.events.Counter.{Counter}
-use Rattle.sw_ports.specs.declared.board.BoardStep.{BoardStep}
-use Rattle.sw_ports.specs.declared.board.BoardStep.TheVariants.{Marked, Found, Stopped, SawStop}
-use Rattle.sw_ports.specs.Board.{In, capped, added, AllAgree, reads}
+use Rattle.sw_base.specs.declared.counter.Counter.{Counter}
+use Rattle.sw_port_board.specs.declared.board.BoardStep.{BoardStep}
+use Rattle.sw_port_board.specs.declared.board.BoardStep.TheVariants.{Marked, Found, Stopped, SawStop}
+use Rattle.sw_port_board.specs.Board.{In, capped, added, AllAgree, reads}
 use Rattle.sw_board.specs.declared.rule.Log.{Log}
 use Rattle.sw_board.specs.Rule.{log}
 use Rattle.sw_board.specs.Values.{SeatNow}

@@ -2,7 +2,7 @@
 use Rattle.std.specs.Prelude.{◌≡◌, ℕ, List, []}
 use Rattle.atomic_table.specs.Seated.{TableId}
 use Rattle.atomic_table.specs.declared.shared.Seat.{Seat}
-use Rattle.sw_ports.specs.declared.board.BoardStep.{BoardStep}
+use Rattle.sw_port_board.specs.declared.board.BoardStep.{BoardStep}
 use Rattle.sw_board.specs.declared.rule.Log.{Log}
 use Rattle.sw_board.specs.declared.rule.View.{View}
 use Rattle.sw_board.specs.declared.words.Words.{Words}

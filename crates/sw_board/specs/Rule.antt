@@ -3,10 +3,10 @@ use Rattle.std.specs.Prelude.{◌≡◌, ℕ, zero, suc, ◌+◌, ◌*◌, ◌�
 use mathlib.Core.Option.{some}
 use lib.ListN.{get_elem?}
 use Rattle.atomic_table.specs.Table.{State}
-use Rattle.sw_data.specs.declared.events.Counter.{Counter}
-use Rattle.sw_ports.specs.declared.board.BoardStep.{BoardStep}
-use Rattle.sw_ports.specs.declared.board.BoardStep.TheVariants.{Marked, Found, Stopped, SawStop, Added, Read}
-use Rattle.sw_ports.specs.Board.{In, capped, counter_number, one_if, added, is_idle_after, knows_stop, Agrees, AllAgree, reads}
+use Rattle.sw_base.specs.declared.counter.Counter.{Counter}
+use Rattle.sw_port_board.specs.declared.board.BoardStep.{BoardStep}
+use Rattle.sw_port_board.specs.declared.board.BoardStep.TheVariants.{Marked, Found, Stopped, SawStop, Added, Read}
+use Rattle.sw_port_board.specs.Board.{In, capped, counter_number, one_if, added, is_idle_after, knows_stop, Agrees, AllAgree, reads}
 use Rattle.sw_board.specs.declared.rule.Log.{Log}
 use Rattle.sw_board.specs.declared.rule.View.{View}
 

@@ -1,9 +1,9 @@
 -- What clauses see of a seat.
 use Rattle.std.specs.Prelude.{◌≡◌, ℕ, zero, suc, List, [], ◌∷◌, ◌++◌}
 use Rattle.atomic_table.specs.Seated.{TableId}
-use Rattle.sw_ports.specs.declared.board.BoardStep.{BoardStep}
-use Rattle.sw_ports.specs.declared.crew.Sizes.{Sizes}
-use Rattle.sw_ports.specs.Board.{AllAgree}
+use Rattle.sw_port_board.specs.declared.board.BoardStep.{BoardStep}
+use Rattle.sw_port_board.specs.declared.crew.Sizes.{Sizes}
+use Rattle.sw_port_board.specs.Board.{AllAgree}
 
 -- which board it is, and how many actors it has
 pub record BoardId : Type 0 where

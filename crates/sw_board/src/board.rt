@@ -7,8 +7,8 @@ use crate::seat::Seat;
 use crate::words::Words;
 use std::alloc::Global;
 use std::sync::Arc;
-use sw_data::OutOfMemory;
-use sw_ports::Sizes;
+use sw_base::OutOfMemory;
+use sw_port_board::Sizes;
 
 /// The seats of a board of so many workers, task workers and actors in all: one seat for each actor, in their order.
 pub fn make(

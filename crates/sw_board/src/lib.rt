@@ -1,4 +1,4 @@
-// The board that threads share: each actor has one seat, over the words of one table.
+//! The board that threads share: each actor has one seat, over the words of one table.
 #![tactic(auto)]
 
 mod board;

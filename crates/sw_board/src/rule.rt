@@ -1,7 +1,7 @@
 //! What the table's seats know of the words, and what each step tells.
 use atomic_table::{Join, Play, Split, TableRule};
 use std::collections::LinkedList;
-use sw_ports::BoardStep;
+use sw_port_board::BoardStep;
 
 /// One actor's steps so far. No value of it is made.
 pub struct Log {
@@ -52,7 +52,7 @@ pub struct Marks;
 impl Play<(), View> for Marks {
     ghost use Rattle.std.specs.Prelude.{◌≡◌, ◌==◌};
     ghost use Rattle.sw_board.specs.Rule.{logged};
-    ghost use Rattle.sw_ports.specs.declared.board.BoardStep.TheVariants.{Marked};
+    ghost use Rattle.sw_port_board.specs.declared.board.BoardStep.TheVariants.{Marked};
 
     ghost then = { λ s m r n. n ≡ (logged m.0 (Marked (s.first == 1)), m.1) };
 }
@@ -63,7 +63,7 @@ pub struct Finds;
 impl Play<(), View> for Finds {
     ghost use Rattle.std.specs.Prelude.{◌≡◌, ◌==◌, ℕ};
     ghost use Rattle.sw_board.specs.Rule.{logged, Matches, idle_word};
-    ghost use Rattle.sw_ports.specs.declared.board.BoardStep.TheVariants.{Found};
+    ghost use Rattle.sw_port_board.specs.declared.board.BoardStep.TheVariants.{Found};
 
     ghost then = { λ s m r n. (a : ℕ) → s.word ≡ idle_word a → (n ≡ (logged m.0 (Found a (r == 1)), m.1)) × Matches m.0 (Found a (r == 1)) };
 }
@@ -74,7 +74,7 @@ pub struct Stops;
 impl Play<(), View> for Stops {
     ghost use Rattle.std.specs.Prelude.{◌≡◌};
     ghost use Rattle.sw_board.specs.Rule.{logged};
-    ghost use Rattle.sw_ports.specs.declared.board.BoardStep.TheVariants.{Stopped};
+    ghost use Rattle.sw_port_board.specs.declared.board.BoardStep.TheVariants.{Stopped};
 
     ghost then = { λ s m r n. n ≡ (logged m.0 Stopped, m.1) };
 }
@@ -85,7 +85,7 @@ pub struct Sees;
 impl Play<(), View> for Sees {
     ghost use Rattle.std.specs.Prelude.{◌≡◌, ◌==◌};
     ghost use Rattle.sw_board.specs.Rule.{logged, Matches};
-    ghost use Rattle.sw_ports.specs.declared.board.BoardStep.TheVariants.{SawStop};
+    ghost use Rattle.sw_port_board.specs.declared.board.BoardStep.TheVariants.{SawStop};
 
     ghost then = { λ s m r n. (n ≡ (logged m.0 (SawStop (r == 1)), m.1)) × Matches m.0 (SawStop (r == 1)) };
 }
@@ -96,8 +96,8 @@ pub struct Recalls;
 impl Play<(), View> for Recalls {
     ghost use Rattle.std.specs.Prelude.{◌≡◌};
     ghost use Rattle.sw_board.specs.Rule.{count_word, actor_of, steps_of};
-    ghost use Rattle.sw_data.specs.declared.events.Counter.{Counter};
-    ghost use Rattle.sw_ports.specs.Board.{added, capped};
+    ghost use Rattle.sw_base.specs.declared.counter.Counter.{Counter};
+    ghost use Rattle.sw_port_board.specs.Board.{added, capped};
 
     ghost then = { λ s m r n. (n ≡ m) × ((c : Counter) → s.word ≡ count_word c (actor_of m.0) → r ≡ capped (added c (steps_of m.0))) };
 }
@@ -108,8 +108,8 @@ pub struct Adds;
 impl Play<(), View> for Adds {
     ghost use Rattle.std.specs.Prelude.{◌≡◌};
     ghost use Rattle.sw_board.specs.Rule.{logged, count_word, actor_of};
-    ghost use Rattle.sw_data.specs.declared.events.Counter.{Counter};
-    ghost use Rattle.sw_ports.specs.declared.board.BoardStep.TheVariants.{Added};
+    ghost use Rattle.sw_base.specs.declared.counter.Counter.{Counter};
+    ghost use Rattle.sw_port_board.specs.declared.board.BoardStep.TheVariants.{Added};
 
     ghost then = { λ s m r n. (c : Counter) → s.word ≡ count_word c (actor_of m.0) → n ≡ (logged m.0 (Added c), m.1) };
 }
@@ -120,8 +120,8 @@ pub struct Reads;
 impl Play<(), View> for Reads {
     ghost use Rattle.std.specs.Prelude.{◌≡◌, ℕ};
     ghost use Rattle.sw_board.specs.Rule.{logged, Matches, count_word};
-    ghost use Rattle.sw_data.specs.declared.events.Counter.{Counter};
-    ghost use Rattle.sw_ports.specs.declared.board.BoardStep.TheVariants.{Read};
+    ghost use Rattle.sw_base.specs.declared.counter.Counter.{Counter};
+    ghost use Rattle.sw_port_board.specs.declared.board.BoardStep.TheVariants.{Read};
 
     ghost then = { λ s m r n. (c : Counter) (a : ℕ) → s.word ≡ count_word c a → (n ≡ (logged m.0 (Read c a r), m.1)) × Matches m.0 (Read c a r) };
 }

@@ -1,13 +1,13 @@
 //! One actor's seat at a board.
 ghost use Rattle.std.specs.Prelude.{◌≡◌, ◌≤◌, ◌<◌, ◌+◌, [], ◌∷◌};
 ghost use Rattle.sw_board.specs.Values.{SeatGoes};
-ghost use Rattle.sw_ports.specs.declared.board.BoardStep.TheVariants.{Found, Read};
+ghost use Rattle.sw_port_board.specs.declared.board.BoardStep.TheVariants.{Found, Read};
 
 use crate::words::{Place, Words};
 use std::marker::Model;
 use std::sync::Arc;
-use sw_data::Counter;
-use sw_ports::{Board, Crew, Sizes, next_member};
+use sw_base::Counter;
+use sw_port_board::{Board, Crew, Sizes, next_member};
 
 /// One actor's seat: only it stores in the actor's words. It may go to another thread. Contracts see its board,
 /// its actor and the steps that it made so far.

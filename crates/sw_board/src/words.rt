@@ -9,8 +9,8 @@ use crate::rule::{
 use atomic_table::{Seat, Table};
 use std::alloc::{AllocError, Global};
 use std::vec;
-use sw_data::Counter;
-use sw_ports::Sizes;
+use sw_base::Counter;
+use sw_port_board::Sizes;
 
 /// What a thread steps on the words with. It has no bytes.
 pub type Place = Seat<(), View>;
@@ -38,8 +38,8 @@ impl Words {
     ghost use Rattle.std.specs.Prelude.{◌≡◌, ◌≤◌, ◌<◌, ◌+◌, ◌-◌, ◌++◌, [], ◌∷◌, length, IfOk};
     ghost use Rattle.sw_board.specs.Places.{words_id, actor_at, steps_at, logs_at, next_at, left_at, IsSeat, IsDealer, IsHolder};
     ghost use Rattle.sw_board.specs.Rule.{words_of, row, idle_word, count_word, Settled};
-    ghost use Rattle.sw_ports.specs.Board.{Agrees, counter_number};
-    ghost use Rattle.sw_ports.specs.declared.board.BoardStep.TheVariants.{Marked, Found, Stopped, SawStop, Added, Read};
+    ghost use Rattle.sw_port_board.specs.Board.{Agrees, counter_number};
+    ghost use Rattle.sw_port_board.specs.declared.board.BoardStep.TheVariants.{Marked, Found, Stopped, SawStop, Added, Read};
 
     /// The words as they are at first, and the place that deals the seats.
     pub fn new(alloc: Global, sizes: Sizes) -> Result<(Words, Place), AllocError>

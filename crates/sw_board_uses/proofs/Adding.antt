@@ -1,11 +1,11 @@
 -- What reading and adding do to a count.
 use Rattle.std.proofs.Common.{◌≡◌, ◌+◌, ℕ, List, [], ◌∷◌, ◌++◌, length, length-append, get_or, refl, sym, ap, ◌∙◌, arith}
 use Rattle.sw_board.specs.Values.{SeatNow}
-use Rattle.sw_data.specs.declared.events.Counter.{Counter}
-use Rattle.sw_data.specs.declared.events.Counter.TheVariants.{Packets}
-use Rattle.sw_ports.specs.declared.board.BoardStep.{BoardStep}
-use Rattle.sw_ports.specs.declared.board.BoardStep.TheVariants.{Added}
-use Rattle.sw_ports.specs.Board.{added, reads_from}
+use Rattle.sw_base.specs.declared.counter.Counter.{Counter}
+use Rattle.sw_base.specs.declared.counter.Counter.TheVariants.{Packets}
+use Rattle.sw_port_board.specs.declared.board.BoardStep.{BoardStep}
+use Rattle.sw_port_board.specs.declared.board.BoardStep.TheVariants.{Added}
+use Rattle.sw_port_board.specs.Board.{added, reads_from}
 
 -- words that are read add nothing
 pub added_reads : (c d : Counter) (a : ℕ) (words : List ℕ) → added c (reads_from d a words) ≡ 0

@@ -1,14 +1,14 @@
 //! Two threads count, each at its own seat, and a third seat adds up.
 ghost use Rattle.std.specs.Prelude.{◌≡◌, ◌≤◌, ◌+◌, IfOk};
-ghost use Rattle.sw_data.specs.declared.events.Counter.TheVariants.{Packets};
-ghost use Rattle.sw_ports.specs.Board.{added};
+ghost use Rattle.sw_base.specs.declared.counter.Counter.TheVariants.{Packets};
+ghost use Rattle.sw_port_board.specs.Board.{added};
 
 use std::alloc::Global;
 use std::thread;
 use std::thread::Threads;
+use sw_base::{Counter, OutOfMemory};
 use sw_board::{Seat, close, make};
-use sw_data::{Counter, OutOfMemory};
-use sw_ports::Board;
+use sw_port_board::Board;
 
 /// Adds so often to the count of packets.
 pub fn add_times(mut seat: Seat, times: u32) -> Seat

@@ -1,4 +1,4 @@
-// Callers of the shared board: what a program over several threads can know of it.
+//! Callers of the shared board: what a program over several threads can know of it.
 #![tactic(auto)]
 
 mod counting;

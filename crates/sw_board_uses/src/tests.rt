@@ -6,9 +6,9 @@ use std::alloc::Global;
 use std::process::Abort;
 use std::test::Fail;
 use std::thread;
+use sw_base::Counter;
 use sw_board::{Seat, close, make};
-use sw_data::Counter;
-use sw_ports::{Board, Crew, PlainBoard, Sizes};
+use sw_port_board::{Board, Crew, PlainBoard, Sizes};
 
 // A call at a board.
 #[derive(Clone, Copy)]

@@ -4,9 +4,9 @@ use Rattle.sw_text.specs.Then.{◌>>=◌}
 use Rattle.sw_text.specs.Numbers.{signed_of}
 use Rattle.sw_text.specs.Parts.{cut_at, part_at}
 use Rattle.sw_text.specs.Hex.{bytes_of}
-use Rattle.sw_data.specs.declared.table.Value.{Value}
-use Rattle.sw_data.specs.declared.table.Call.{Call}
-use Rattle.sw_data.specs.declared.table.Call.TheVariants as calls
+use Rattle.sw_base.specs.declared.table.Value.{Value}
+use Rattle.sw_base.specs.declared.table.Call.{Call}
+use Rattle.sw_base.specs.declared.table.Call.TheVariants as calls
 use Rattle.sw_column.specs.Columns.{is_name}
 use Rattle.sw_call.specs.declared.verbs.Verb.{Verb}
 use Rattle.sw_call.specs.declared.verbs.Verb.TheVariants as verbs

@@ -3,8 +3,8 @@ use Rattle.std.specs.Str.{bytes_eq}
 use Rattle.sw_text.specs.Then.{◌>>=◌}
 use Rattle.sw_text.specs.Numbers.{number_of, signed_of}
 use Rattle.sw_text.specs.Parts.{cut_at}
-use Rattle.sw_data.specs.declared.table.Reply.{Reply}
-use Rattle.sw_data.specs.declared.table.Reply.TheVariants as replies
+use Rattle.sw_base.specs.declared.table.Reply.{Reply}
+use Rattle.sw_base.specs.declared.table.Reply.TheVariants as replies
 use Rattle.sw_call.specs.declared.answer.Replied.{Replied}
 use Rattle.sw_call.specs.Values.{values_of}
 

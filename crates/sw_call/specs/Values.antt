@@ -2,8 +2,8 @@ use Rattle.std.specs.Prelude.{ℕ, List, [], ◌∷◌, Option, Some, None, nat_
 use Rattle.sw_text.specs.Then.{◌>>=◌}
 use Rattle.sw_text.specs.Numbers.{signed_of}
 use Rattle.sw_text.specs.Hex.{bytes_of}
-use Rattle.sw_data.specs.declared.table.Value.{Value}
-use Rattle.sw_data.specs.declared.table.Value.TheVariants.{Int, Text}
+use Rattle.sw_base.specs.declared.table.Value.{Value}
+use Rattle.sw_base.specs.declared.table.Value.TheVariants.{Int, Text}
 use Rattle.sw_call.specs.Pieces.{items_in}
 
 -- the bytes that pairs of digits spell, or none where no digit stands there

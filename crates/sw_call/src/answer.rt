@@ -1,11 +1,11 @@
-// What a call came to, as a text.
+//! What a call came to, as a text.
 
 ghost use Rattle.std.specs.Prelude.{◌≡◌, Some, None, IfOk};
 ghost use Rattle.sw_call.specs.Replies.{only, word_reply, row_reply, value_reply, count_reply, long_reply, reply_of};
 
 use crate::values::values;
 use std::alloc::Global;
-use sw_data::{Cells, OutOfMemory, Reply};
+use sw_base::{Cells, OutOfMemory, Reply};
 use sw_text::{cut, is, number, signed};
 
 /// A reply, and the values of the row that it shows.

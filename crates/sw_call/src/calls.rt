@@ -1,4 +1,4 @@
-// The calls of the Table as texts.
+//! The calls of the Table as texts.
 
 ghost use Rattle.std.specs.Prelude.{◌≡◌, Some, None, IfOk};
 ghost use Rattle.std.specs.Option.{option_copied};
@@ -9,8 +9,8 @@ use crate::pieces::first_piece;
 use crate::values::value;
 use crate::verbs::Verb;
 use std::alloc::Global;
+use sw_base::{Call, Key, Name, OutOfMemory, Pairs, Value};
 use sw_column::is_name;
-use sw_data::{Call, Key, Name, OutOfMemory, Pairs, Value};
 use sw_text::{bytes, cut, is, part, signed};
 
 #[tactic(auto, unfolding(crate::specs::Calls::pair_of))]

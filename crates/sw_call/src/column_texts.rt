@@ -1,4 +1,4 @@
-// Columns as texts, and the schema that they make.
+//! Columns as texts, and the schema that they make.
 
 ghost use Rattle.std.specs.Prelude.{◌≡◌, Some, None, IfOk, Ok, Err, not, nat_eq, Result};
 ghost use Rattle.std.specs.List.{list_all};
@@ -7,8 +7,8 @@ ghost use Rattle.sw_call.specs.Columns.{kind_of, column_text, columns_of, schema
 
 use crate::pieces::first_piece;
 use std::alloc::Global;
+use sw_base::{Items, Name, OutOfMemory};
 use sw_column::{Column, ColumnFault, Kind, Schema};
-use sw_data::{Items, Name, OutOfMemory};
 use sw_text::{is, number_within, part};
 
 /// Columns, in order.

@@ -1,5 +1,5 @@
-// The text of the Table: its calls, its replies, and its columns. Stands above the columns and the parts of texts, and
-// serves every text that names calls or columns: traces, schedules, scripts and settings.
+//! The text of the Table: its calls, its replies, and its columns. Stands above the columns and the parts of texts, and
+//! serves every text that names calls or columns: traces, schedules, scripts and settings.
 #![tactic(auto)]
 
 mod answer;

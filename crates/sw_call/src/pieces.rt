@@ -1,4 +1,4 @@
-// What stands between the separators of a text.
+//! What stands between the separators of a text.
 
 ghost use Rattle.std.specs.Prelude.{◌≡◌, ◌∷◌, ◌<◌, length, IfSome};
 ghost use Rattle.std.specs.Option.{option_copied};

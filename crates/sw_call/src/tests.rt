@@ -1,10 +1,10 @@
-// Texts at the edges of the grammar.
+//! Texts at the edges of the grammar.
 
 use super::*;
 use std::alloc::Global;
 use std::test::Fail;
+use sw_base::{Call, OutOfMemory, Reply, Value};
 use sw_column::ColumnFault;
-use sw_data::{Call, OutOfMemory, Reply, Value};
 
 /// The number that a text is as a value, where it is one.
 fn number(alloc: Global, text: &str) -> Result<Option<i64>, OutOfMemory> {

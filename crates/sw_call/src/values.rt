@@ -1,11 +1,11 @@
-// Values: numbers with a sign, and texts as hexadecimal digits behind an `x`.
+//! Values: numbers with a sign, and texts as hexadecimal digits behind an `x`.
 
 ghost use Rattle.std.specs.Prelude.{◌≡◌, IfOk};
 ghost use Rattle.sw_call.specs.Values.{octets_of, text_value, number_value, value_of, values_of};
 
 use crate::pieces::first_piece;
 use std::alloc::Global;
-use sw_data::{Cells, Octets, OutOfMemory, Value};
+use sw_base::{Cells, Octets, OutOfMemory, Value};
 use sw_text::{bytes, signed};
 
 fn octets(alloc: Global, digits: &[u8]) -> Result<Option<Octets>, OutOfMemory>

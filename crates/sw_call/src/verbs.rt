@@ -1,8 +1,8 @@
-// The word that a call begins with.
+//! The word that a call begins with.
 ghost use Rattle.std.specs.Prelude.{◌≡◌};
 ghost use Rattle.sw_call.specs.Calls.{call_on};
 
-use sw_data::{Call, Key, Name, Pairs};
+use sw_base::{Call, Key, Name, Pairs};
 
 /// What a call asks of a key: the call without its key, for texts that name keys in other ways than by digits.
 #[derive(Drop)]

@@ -1,4 +1,4 @@
-// std's readers and writers as a source and a sink. These few lines are the edge that trusts std.
+//! std's readers and writers as a source and a sink. These few lines are the edge that trusts std.
 
 ghost use Rattle.std.specs.Prelude.{◌≡◌, ℕ, List, Option, None, Bool, false};
 

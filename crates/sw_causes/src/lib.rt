@@ -1,5 +1,5 @@
-// What the server reads its input from and writes its output to, with each one's faults counted. Stands below the top call,
-// which reads a source whole and writes a sink once.
+//! What the server reads its input from and writes its output to, with each one's faults counted. Stands below the top call,
+//! which reads a source whole and writes a sink once.
 #![tactic(auto)]
 
 mod adapters;

@@ -1,4 +1,4 @@
-// A sink that keeps what it took, and whose writes fail where a list says so.
+//! A sink that keeps what it took, and whose writes fail where a list says so.
 
 ghost use Rattle.std.specs.Prelude.{◌≡◌, ℕ, ◌≤◌, ◌+◌, [], length, min, Some};
 

@@ -1,4 +1,4 @@
-// Bytes in memory as a source whose reads fail where a list says so.
+//! Bytes in memory as a source whose reads fail where a list says so.
 
 ghost use Rattle.std.specs.Prelude.{◌≡◌, ◌↔◌, ℕ, ◌≤◌, ◌<◌, length, min, ◌+◌, take, drop, Some, false};
 

@@ -1,4 +1,4 @@
-// A source and a sink that never fail: their counts of faults are 0 for good.
+//! A source and a sink that never fail: their counts of faults are 0 for good.
 
 ghost use Rattle.std.specs.Prelude.{◌≡◌, ℕ, List, length, Option, Some, None, Bool, false};
 

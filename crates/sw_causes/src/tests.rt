@@ -1,4 +1,4 @@
-// Reading and writing whole, and the faults in between.
+//! Reading and writing whole, and the faults in between.
 
 use super::*;
 use std::alloc::Global;

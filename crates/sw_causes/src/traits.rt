@@ -1,4 +1,4 @@
-// The two traits of the outside. A fault is never told without its cause: Failed comes only where the count of faults rose.
+//! The two traits of the outside. A fault is never told without its cause: Failed comes only where the count of faults rose.
 
 ghost use Rattle.std.specs.Prelude.{◌≡◌, ℕ, ◌≤◌, ◌<◌, List, length, Option, Bool};
 ghost use Rattle.sw_causes.specs.Causes.{TellsRead, EndsRead, TellsWrite, Rises};

@@ -1,4 +1,4 @@
-// A source read to its end, and a text written whole.
+//! A source read to its end, and a text written whole.
 
 ghost use Rattle.std.specs.Prelude.{◌≡◌, ℕ, ◌≤◌, ◌<◌, ◌+◌, length, take, drop, Option, Bool};
 ghost use Rattle.sw_causes.specs.Whole.{ReadsWhole, WritesWhole};

@@ -1,15 +1,14 @@
 //! A bucket: the head in place, and boxed rows behind it.
-ghost use Rattle.std.specs.Prelude.{◌≡◌, ◌+◌, ◌-◌, ◌^◌, ◌<◌, ◌≤◌, ◌∷◌, [], length, slice_get, Some, None, IsSome, IsTrue, IfSome, IfNone};
-ghost use Rattle.sw_data.specs.declared.table.Value.TheVariants as values;
+ghost use Rattle.std.specs.Prelude.{◌≡◌, ◌<◌, ◌≤◌, ◌∷◌, [], length, take, remove, slice_get, Some, None, IsSome, IsTrue, IfSome, IfNone};
+ghost use Rattle.sw_base.specs.declared.table.Value.TheVariants as values;
 ghost use Rattle.sw_column.specs.declared.column.Kind.TheVariants as kinds;
 ghost use Rattle.sw_column.specs.Values.{HasKinds, holds};
 ghost use Rattle.sw_row.specs.Layout.{kept, offset_of};
 ghost use Rattle.sw_chain.specs.Rows.{found, without, with_second, with_values, with_value};
 
-use crate::parted::{Parted, join, part};
+use crate::behind::{rewrite_behind, set_number_behind, set_text_behind, take_behind, take_first};
 use crate::walk::{find_from, row_at};
 use std::marker::Model;
-use std::mem;
 use sw_column::{RowBuf, Schema};
 use sw_row::Row;
 
@@ -107,25 +106,25 @@ impl Chain {
         ensures last { IfSome result (λ spare. IfNone spare (length self.old ≡ 1)) }
         ensures spare { IfSome result (λ spare. IfSome spare (λ row. (2 ≤ length self.old) × (row.value.behind ≡ []))) }
     {
-        let at = self.find(key)?;
+        match self.find(key) {
+            None => None,
+            Some(at) => Some(self.take_at(at)),
+        }
+    }
+
+    /// Takes the row at a place out, and gives its box, or that of the row that came into the head's place.
+    fn take_at(&mut self, at: u32) -> Option<Box<Row>>
+        requires { at < length self.old }
+        ensures rows { self.new ≡ remove self.old at }
+        ensures last { IfNone result (length self.old ≡ 1) }
+        ensures spare { IfSome result (λ row. (2 ≤ length self.old) × (row.value.behind ≡ [])) }
+    {
         self.len -= 1;
         if at == 0 {
-            let Some(mut next) = self.head.set_next(None) else {
-                self.head = Row::new();
-                return Some(None);
-            };
-            let rest = next.set_next(None);
-            mem::swap(&mut self.head, &mut *next);
-            self.head.set_next(rest);
-            return Some(Some(next));
+            take_first(&mut self.head)
+        } else {
+            Some(take_behind(&mut self.head, at - 1))
         }
-        let Parted { before, rest } = part(self.head.set_next(None), at - 1);
-        let Some(mut row) = rest else {
-            unreachable!()
-        };
-        let behind = row.set_next(None);
-        self.head.set_next(join(before, behind));
-        Some(Some(row))
     }
 
     /// Writes new values into a row, under the same key.
@@ -134,7 +133,11 @@ impl Chain {
         requires kinds { HasKinds schema.now from.now }
         ensures { self.new ≡ with_values self.old at schema.now (kept schema.now from.now) }
     {
-        loop {}
+        if at == 0 {
+            self.head.rewrite(schema, from);
+        } else {
+            rewrite_behind(&mut self.head, at - 1, schema, from);
+        }
     }
 
     /// The number in a column of a row, read in place. `offset` is `sw_row::offset` of the column.
@@ -158,35 +161,26 @@ impl Chain {
         requires offset { offset ≡ offset_of schema.now column }
         ensures { self.new ≡ with_value self.old at column (values.Int n) }
     {
-        set_number_at(&mut self.head, at, schema, column, offset, n);
+        if at == 0 {
+            self.head.set_number(schema, column, offset, n);
+        } else {
+            set_number_behind(&mut self.head, at - 1, schema, column, offset, n);
+        }
     }
 
-    /// Writes a text into a column of a row, in place.
-    pub fn set_text(&mut self, at: u32, schema: &Schema, column: usize, offset: usize, text: &[u8]) {
-        set_text_at(&mut self.head, at, schema, column, offset, text);
+    /// Writes a text into a column of a row, in place, cut at the column's size.
+    pub fn set_text(&mut self, at: u32, schema: &Schema, column: usize, offset: usize, text: &[u8])
+        requires place { at < length self.old }
+        requires packed { IfSome (slice_get self.old at) (λ r. r.columns ≡ schema.now) }
+        requires column { column < length schema.now }
+        requires kind { IfSome (slice_get schema.now column) (λ c. c.kind ≡ kinds.Text) }
+        requires offset { offset ≡ offset_of schema.now column }
+        ensures { IfSome (slice_get schema.now column) (λ c. self.new ≡ with_value self.old at column (values.Text (take c.size text.now))) }
+    {
+        if at == 0 {
+            self.head.set_text(schema, column, offset, text);
+        } else {
+            set_text_behind(&mut self.head, at - 1, schema, column, offset, text);
+        }
     }
-}
-
-fn set_number_at(row: &mut Row, at: u32, schema: &Schema, column: usize, offset: usize, n: i64) {
-    if at == 0 {
-        row.set_number(schema, column, offset, n);
-        return;
-    }
-    let Some(mut next) = row.set_next(None) else {
-        return;
-    };
-    set_number_at(&mut next, at - 1, schema, column, offset, n);
-    row.set_next(Some(next));
-}
-
-fn set_text_at(row: &mut Row, at: u32, schema: &Schema, column: usize, offset: usize, text: &[u8]) {
-    if at == 0 {
-        row.set_text(schema, column, offset, text);
-        return;
-    }
-    let Some(mut next) = row.set_next(None) else {
-        return;
-    };
-    set_text_at(&mut next, at - 1, schema, column, offset, text);
-    row.set_next(Some(next));
 }

@@ -2,6 +2,7 @@
 //! Table.
 #![tactic(auto)]
 
+mod behind;
 mod chain;
 mod parted;
 mod walk;

@@ -19,7 +19,8 @@ pub fn part(rows: Option<Box<Row>>, count: u32) -> Parted
 {
     let mut before = None;
     let mut rest = rows;
-    for _ in 0..count {
+    for passed in 0..count {
+        let _ = passed;
         match rest {
             None => unreachable!(),
             Some(mut row) => {

@@ -29,7 +29,8 @@ pub fn row_at(head: &Row, at: u32) -> &Row
     ensures { slice_get (head.now.here ∷ head.now.behind) at ≡ Some result.now.here }
 {
     let mut row = head;
-    for _ in 0..at {
+    for passed in 0..at {
+        let _ = passed;
         match row.next() {
             None => unreachable!(),
             Some(next) => row = next,

@@ -1,6 +1,6 @@
 use Rattle.std.specs.Prelude.{ℕ, List, [], take, Option, Some, None, Bool, true, false, nat_eq, ℤ, pos}
-use Rattle.sw_data.specs.declared.table.Value.{Value}
-use Rattle.sw_data.specs.declared.table.Value.TheVariants as values
+use Rattle.sw_base.specs.declared.table.Value.{Value}
+use Rattle.sw_base.specs.declared.table.Value.TheVariants as values
 use Rattle.sw_column.specs.declared.column.Kind.{Kind}
 use Rattle.sw_column.specs.declared.column.Kind.TheVariants as kinds
 use Rattle.sw_column.specs.declared.cell.Cell.{Cell}

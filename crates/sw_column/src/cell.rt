@@ -5,7 +5,7 @@ ghost use Rattle.sw_column.specs.Cells.{blank_cell, with_int, with_text, blanked
 use crate::column::Kind;
 use crate::text_buf::TextBuf;
 use std::alloc::Global;
-use sw_data::OutOfMemory;
+use sw_base::OutOfMemory;
 
 /// The place of a value in a row. It holds values of one kind, and writing one takes no memory.
 #[derive(Drop, Debug)]

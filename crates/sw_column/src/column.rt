@@ -3,7 +3,7 @@ ghost use Rattle.std.specs.Prelude.{◌≡◌};
 ghost use Rattle.std.specs.List.{list_all};
 ghost use Rattle.sw_column.specs.Columns.{is_name, is_name_byte, is_size, width};
 
-use sw_data::{Name, OutOfMemory, TryCopy};
+use sw_base::{Name, OutOfMemory, TryCopy};
 
 /// What the values of a column are.
 #[derive(Clone, Copy, Debug, PartialEq, Eq)]

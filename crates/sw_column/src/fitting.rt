@@ -6,7 +6,7 @@ ghost use Rattle.sw_column.specs.Fit.{fits, value_fault, number_fault, text_faul
 
 use crate::column::{Column, Kind};
 use crate::schema::Schema;
-use sw_data::{Call, CallFault, Pairs, Value};
+use sw_base::{Call, CallFault, Pairs, Value};
 
 /// Whether a number fits a column of so many bytes.
 pub fn fits(size: u32, n: i64) -> bool

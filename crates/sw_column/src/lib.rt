@@ -1,5 +1,5 @@
-// The columns of the Table, what a call must be to fit them, and the buffer of a row. It stands right above the values
-// that the parts of the server pass to each other, and below everything that knows a row.
+//! The columns of the Table, what a call must be to fit them, and the buffer of a row. It stands right above the values
+//! that the parts of the server pass to each other, and below everything that knows a row.
 #![tactic(auto)]
 
 mod cell;

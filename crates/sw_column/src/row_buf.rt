@@ -1,6 +1,6 @@
 //! A row's buffer, made once for all rows of a schema.
 ghost use Rattle.std.specs.Prelude.{◌≡◌, ◌<◌, ◌≤◌, Some, IsTrue, length, slice_get, slice_set, IfOk};
-ghost use Rattle.sw_data.specs.declared.table.Value.TheVariants as values;
+ghost use Rattle.sw_base.specs.declared.table.Value.TheVariants as values;
 ghost use Rattle.sw_column.specs.Cells.{cell_value, is_int, is_text};
 ghost use Rattle.sw_column.specs.Values.{HasKinds, blank};
 
@@ -8,7 +8,7 @@ use crate::cell::Cell;
 use crate::schema::Schema;
 use std::alloc::Global;
 use std::marker::Model;
-use sw_data::{Cells, Octets, OutOfMemory, Value};
+use sw_base::{Cells, Octets, OutOfMemory, Value};
 
 /// The longest text of a row: 1,024 bytes without the two of its length.
 const LONGEST_TEXT: usize = 1022;

@@ -5,7 +5,7 @@ ghost use Rattle.sw_column.specs.Columns.{place, column_fault, kind_fault, size_
 use crate::column::{Column, ColumnFault, Kind, is_name, is_size, width};
 use std::alloc::Global;
 use std::marker::Model;
-use sw_data::{Name, OutOfMemory, TryCopy};
+use sw_base::{Name, OutOfMemory, TryCopy};
 
 /// The columns of a Table, in the order in which they were added.
 #[derive(Drop, Debug)]

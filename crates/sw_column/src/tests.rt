@@ -1,7 +1,7 @@
 //! The columns' edges.
 use crate::{Cell, ColumnFault, Kind, RowBuf, Schema, fits, hash};
 use std::test::Fail;
-use sw_data::{Call, CallFault, Key, Name, Pairs, Value};
+use sw_base::{Call, CallFault, Key, Name, Pairs, Value};
 
 #[test]
 fn columns_are_refused_in_order(rt: HostRuntime) -> Result<(), Fail> {

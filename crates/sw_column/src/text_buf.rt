@@ -3,7 +3,7 @@ ghost use Rattle.std.specs.Prelude.{◌≡◌, ◌≤◌, [], take, length, IfOk
 
 use std::alloc::Global;
 use std::marker::Model;
-use sw_data::OutOfMemory;
+use sw_base::OutOfMemory;
 
 /// A text in a place of fixed room, so that writing it takes no memory. Contracts see the text and the room.
 #[derive(Drop, Debug)]

@@ -2,7 +2,8 @@ ghost use Rattle.std.specs.Prelude.{◌≡◌};
 ghost use Rattle.sw_conn.specs.Conn.{kind_of, moved_by};
 
 use std::alloc::Global;
-use sw_data::{Cause, Event, Octets, OutOfMemory, Session};
+use sw_base::{Octets, OutOfMemory, Session};
+use sw_data::{Cause, Event};
 use sw_frame::{Cutter, Next};
 use sw_link::{Link, LinkRead, Script};
 

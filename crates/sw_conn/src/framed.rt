@@ -1,7 +1,7 @@
 ghost use Rattle.std.specs.Prelude.{◌≡◌, IfOk};
 
 use std::marker::Model;
-use sw_data::OutOfMemory;
+use sw_base::OutOfMemory;
 use sw_frame::Framing;
 
 /// A framing that can cut, which contracts see as that framing.

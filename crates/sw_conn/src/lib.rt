@@ -1,4 +1,4 @@
-// The connection's machine: what a connection pushes, reads and writes, from its first event to its last.
+//! The connection's machine: what a connection pushes, reads and writes, from its first event to its last.
 #![tactic(auto)]
 
 mod conn;

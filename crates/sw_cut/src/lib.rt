@@ -1,5 +1,5 @@
-// What it means to cut bytes into packets, over whole lists. The crates of the framings above say what
-// comes first in some bytes; here stands what follows from that.
+//! What it means to cut bytes into packets, over whole lists. The crates of the framings above say what
+//! comes first in some bytes; here stands what follows from that.
 #![tactic(auto)]
 
 /// What a framing says of the bytes behind the packets that were cut so far.

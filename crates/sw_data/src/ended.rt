@@ -1,4 +1,4 @@
-use crate::session::Session;
+use sw_base::Session;
 
 /// Why a link ended.
 #[derive(Clone, Copy, Debug)]

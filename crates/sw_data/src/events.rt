@@ -1,9 +1,6 @@
 ghost use Rattle.std.specs.Prelude.{◌≡◌, IfOk};
 
-use crate::items::{Items, TryCopy};
-use crate::octets::Octets;
-use crate::out_of_memory::OutOfMemory;
-use crate::session::Session;
+use sw_base::{Items, Octets, OutOfMemory, Session, TryCopy};
 
 /// What happens on a session and is told to its worker's handler: Connect first, then the packets with
 /// their numbers from 0, then Closed.
@@ -40,17 +37,6 @@ pub enum Given {
 /// What a handler was given and what it did, in order.
 pub type Log = Items<(Given, Act)>;
 
-/// What the server counts.
-#[derive(Clone, Copy, Debug, PartialEq, Eq)]
-pub enum Counter {
-    Accepted,
-    Ended,
-    Packets,
-    Sends,
-    Tasks,
-    Finishes,
-}
-
 impl TryCopy for Event {
     fn try_copy(&self) -> Result<Event, OutOfMemory> {
         match self {
@@ -85,13 +71,5 @@ impl TryCopy for Given {
             Given::Event(e) => Ok(Given::Event(e.try_copy()?)),
             Given::Answer(a) => Ok(Given::Answer(a.try_copy()?)),
         }
-    }
-}
-
-impl TryCopy for (Given, Act) {
-    fn try_copy(&self) -> Result<(Given, Act), OutOfMemory> {
-        let given = self.0.try_copy()?;
-        let act = self.1.try_copy()?;
-        Ok((given, act))
     }
 }

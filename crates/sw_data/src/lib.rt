@@ -1,23 +1,19 @@
-// The values that the parts of the server pass to each other: bytes and lists, sessions, events, acts and
-// answers, messages of the pipes, and the calls of the shared Table. Nothing here does anything but hold.
+//! The values that the actors of the server pass to each other: events, acts and answers, messages of the pipes, the end
+//! of a link, and the worker to which a packet goes. Nothing here does anything but hold.
+//!
+//! The byte lists and the Table's values stand below, in `sw_base`; they are handed on here for who uses both.
 #![tactic(auto)]
 
 mod ended;
 mod events;
-mod items;
 mod messages;
-mod octets;
-mod out_of_memory;
-mod session;
-mod table;
 mod targets;
 
 pub use ended::{Cause, Ended};
-pub use events::{Act, Answer, Counter, Event, Given, Log};
-pub use items::{Items, TryCopy};
+pub use events::{Act, Answer, Event, Given, Log};
 pub use messages::{Ask, Got, Msg, Target};
-pub use octets::{Key, Name, Octets, Pieces};
-pub use out_of_memory::OutOfMemory;
-pub use session::Session;
-pub use table::{Call, CallFault, Cells, Pairs, Reply, Value, WordId};
+pub use sw_base::{
+    Call, CallFault, Cells, Counter, Items, Key, Name, Octets, OutOfMemory, Pairs, Pieces, Reply,
+    Session, TryCopy, Value, WordId,
+};
 pub use targets::fixed;

@@ -1,6 +1,5 @@
 use crate::events::Event;
-use crate::octets::Octets;
-use crate::session::Session;
+use sw_base::{Octets, Session};
 
 /// A message of the pipes, where `L` is a link and `K` the ticket that holds its session.
 #[derive(Drop)]

@@ -1,7 +1,8 @@
 ghost use Rattle.std.specs.Prelude.{◌≡◌};
 
 use std::alloc::Global;
-use sw_data::{Ask, Got, Msg, Session, Target};
+use sw_base::Session;
+use sw_data::{Ask, Got, Msg, Target};
 use sw_link::{Accept, Asks, Gets, Message, Net};
 
 /// The acceptor. Of its turns one looks whether the server stops, the next accepts, and so on.

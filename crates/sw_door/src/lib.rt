@@ -1,4 +1,4 @@
-// The door: it accepts links and sends each, with its session, to its reactor.
+//! The door: it accepts links and sends each, with its session, to its reactor.
 #![tactic(auto)]
 
 mod door;

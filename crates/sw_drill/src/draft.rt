@@ -1,4 +1,4 @@
-// A drill as far as it was read. Each line is read where it stands: what came before decides what may come.
+//! A drill as far as it was read. Each line is read where it stands: what came before decides what may come.
 
 ghost use Rattle.std.specs.Prelude.{◌≡◌, ℕ, List, Option, Some, None, Bool, true, false, IfOk, if◌then◌else◌};
 ghost use Rattle.sw_text.specs.Numbers.{number_within};
@@ -8,7 +8,7 @@ use crate::fields::{actor, is_setting_name, set_value};
 use crate::pairs::Pairs;
 use crate::schedule::{Line, Lines};
 use std::alloc::Global;
-use sw_data::{Octets, OutOfMemory};
+use sw_base::{Octets, OutOfMemory};
 use sw_record::Step;
 use sw_text::{bytes, cut, ip, is, number_within, part};
 

@@ -1,11 +1,11 @@
-// The fields of a line that are this text's own.
+//! The fields of a line that are this text's own.
 
 ghost use Rattle.std.specs.Prelude.{◌≡◌, ℕ, List, Option, Some, None, IfOk};
 ghost use Rattle.std.specs.List.{list_all};
 ghost use Rattle.sw_drill.specs.Fields.{actor_of, is_name_byte, is_setting_name, hex_value, text_value, plain_value, value_of};
 
 use std::alloc::{AllocError, Global};
-use sw_data::Octets;
+use sw_base::Octets;
 use sw_record::ActorId;
 use sw_settings::SetValue;
 use sw_text::{bytes, is, number, part};

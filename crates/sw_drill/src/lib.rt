@@ -1,5 +1,5 @@
-// The text of a drill: the settings and the schedule that are read, and the record that is printed. Stands between the top
-// call and the core, and knows neither.
+//! The text of a drill: the settings and the schedule that are read, and the record that is printed. Stands between the top
+//! call and the core, and knows neither.
 #![tactic(auto)]
 
 mod draft;

@@ -1,4 +1,4 @@
-// The pairs that lines of settings give.
+//! The pairs that lines of settings give.
 
 ghost use Rattle.std.specs.Prelude.{◌≡◌, [], ◌∷◌, ◌++◌, Some, None, IfOk, if◌then◌else◌};
 ghost use Rattle.sw_drill.specs.Pairs.{has_name, with_pair, AreNames};
@@ -6,7 +6,7 @@ ghost use Rattle.sw_drill.specs.Pairs.{has_name, with_pair, AreNames};
 use std::alloc::Global;
 use std::collections::BTreeSet;
 use std::marker::Model;
-use sw_data::{Octets, OutOfMemory};
+use sw_base::{Octets, OutOfMemory};
 use sw_settings::{Pair, SetValue};
 
 /// Pairs whose names differ, in the order in which they were added.

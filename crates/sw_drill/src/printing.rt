@@ -1,11 +1,12 @@
-// The text of a record: a few lines for each link, then each worker's log.
+//! The text of a record: a few lines for each link, then each worker's log.
 
 ghost use Rattle.std.specs.Prelude.{◌≡◌, ℕ, ◌++◌, List, codes, OnOk, IfOk, string_bytes};
 ghost use Rattle.std.specs.List.{flat_map};
 ghost use Rattle.sw_drill.specs.Print.{each_text, cause_text, place_text, counts_text, known_text, label_text, start_text, open_line, over_line, piece_text, pieces_text, in_line, out_line, bytes_lines, state_text, link_text, event_text, answer_text, given_text, act_text, entry_line, log_text, record_text};
 
 use std::alloc::Global;
-use sw_data::{Act, Answer, Cause, Ended, Event, Given, Log, Octets, OutOfMemory, Session};
+use sw_base::{Octets, OutOfMemory, Session};
+use sw_data::{Act, Answer, Cause, Ended, Event, Given, Log};
 use sw_record::{LinkRecord, LinkState, Record};
 use sw_text::{put_bytes, put_ip, put_number};
 

@@ -1,4 +1,4 @@
-// A text read whole, line by line.
+//! A text read whole, line by line.
 
 ghost use Rattle.std.specs.Prelude.{◌≡◌, ℕ, List, Option, Some, None, Ok, IfOk};
 ghost use Rattle.sw_text.specs.Parts.{lines_of};
@@ -8,7 +8,7 @@ ghost use Rattle.sw_drill.specs.Grammar.{IsRead};
 use crate::draft::Draft;
 use crate::schedule::Drill;
 use std::alloc::Global;
-use sw_data::OutOfMemory;
+use sw_base::OutOfMemory;
 use sw_text::next_line;
 
 fn lines(alloc: Global, text: &[u8]) -> Result<Result<Draft, u64>, OutOfMemory>

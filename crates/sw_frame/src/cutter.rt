@@ -1,4 +1,4 @@
-// A connection feeds the pieces that it reads to its cutter, and takes the packets from it.
+//! A connection feeds the pieces that it reads to its cutter, and takes the packets from it.
 ghost use Rattle.std.specs.Prelude.{◌≡◌, ◌≤◌, ℕ, length, List, [], ◌∷◌, ◌++◌, OnOk, OnErr};
 ghost use Rattle.sw_frame.specs.Cut.{IsFit};
 
@@ -7,7 +7,7 @@ use crate::framing::Framing;
 use crate::next::Next;
 use std::alloc::Global;
 use std::marker::Model;
-use sw_data::OutOfMemory;
+use sw_base::OutOfMemory;
 
 /// Cuts the pieces of one byte stream into packets. Contracts see the framing, the pieces that were fed, and how
 /// many packets were given.

@@ -1,10 +1,10 @@
-// What a cutter keeps. No byte is moved when a packet is given: only the place behind it is remembered.
+//! What a cutter keeps. No byte is moved when a packet is given: only the place behind it is remembered.
 ghost use Rattle.std.specs.Prelude.{◌≡◌, ℕ, ◌+◌, ◌<◌, ◌≤◌, List, [], ◌∷◌, ◌++◌, length, take, drop, OnOk, OnErr, None, slice_get, slice_index};
 
 use crate::next::Next;
 use std::alloc::{AllocError, Global};
+use sw_base::Octets;
 use sw_cut::First;
-use sw_data::Octets;
 
 /// What was fed to a cutter: the joined pieces with the length of each, and how far they were cut.
 #[derive(Drop)]

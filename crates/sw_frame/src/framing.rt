@@ -1,7 +1,7 @@
-// The ways in which a byte stream is cut, each with what it is set to.
+//! The ways in which a byte stream is cut, each with what it is set to.
 ghost use Rattle.std.specs.Prelude.{◌≡◌, ◌↔◌, IfOk, IsTrue};
 
-use sw_data::{Octets, OutOfMemory};
+use sw_base::{Octets, OutOfMemory};
 use sw_frame_len::LengthRule;
 
 /// How a byte stream is cut into packets.

@@ -1,4 +1,4 @@
-// What the definitions of a cut say, taken together. The functions do nothing: their clauses are laws.
+//! What the definitions of a cut say, taken together. The functions do nothing: their clauses are laws.
 ghost use Rattle.std.specs.Prelude.{◌≡◌, ℕ, List, ◌++◌};
 ghost use Rattle.std.specs.List.{concat};
 ghost use Rattle.sw_frame.specs.Cut.{Cut, IsFit, IsCutOf, cut};
@@ -6,7 +6,7 @@ ghost use Rattle.sw_frame.specs.Cutting.{Cutting, next_of, cut_of};
 ghost use Rattle.sw_frame.specs.Calls.{JoinsPieces, Extends, Call, IsAfter, IsFault, fed_in, given_in, to_come, feed};
 
 use crate::framing::Framing;
-use sw_data::Pieces;
+use sw_base::Pieces;
 
 /// The cut of pieces is what the words say, and nothing else is.
 pub fn cut_is_exact(framing: &Framing, pieces: &Pieces)

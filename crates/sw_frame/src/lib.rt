@@ -1,4 +1,4 @@
-// Cutting the pieces of a byte stream into packets, by a mark, by a length field, or piece by piece.
+//! Cutting the pieces of a byte stream into packets, by a mark, by a length field, or piece by piece.
 #![tactic(auto)]
 
 mod cutter;

@@ -1,5 +1,5 @@
-// The answers of a cutter.
-use sw_data::Octets;
+//! The answers of a cutter.
+use sw_base::Octets;
 
 /// What a cutter answers.
 #[derive(Drop, Debug)]

@@ -4,8 +4,8 @@ use Letter::{BigN, BigV, C, SmallN, SmallV};
 use std::alloc::Global;
 use std::process::Abort;
 use std::test::Fail;
+use sw_base::{Octets, Pieces};
 use sw_cut::First::{self, BadLength, More, TooLong};
-use sw_data::{Octets, Pieces};
 use sw_frame_len::{LengthRule, Letter};
 
 /// Bytes of one stream, with the length of each packet in them and the answer behind the packets.

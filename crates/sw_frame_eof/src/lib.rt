@@ -1,5 +1,5 @@
-// Cutting a byte stream at a mark that ends each packet: what comes first in the bytes behind the packets that
-// were cut so far.
+//! Cutting a byte stream at a mark that ends each packet: what comes first in the bytes behind the packets that
+//! were cut so far.
 #![tactic(auto)]
 
 ghost use Rattle.std.specs.Prelude.{◌≡◌, ◌<◌, length};

@@ -4,7 +4,7 @@ ghost use Rattle.sw_link.specs.Chunks.{with_piece, first_chunk, behind_chunk};
 use std::alloc::Global;
 use std::collections::VecDeque;
 use std::marker::Model;
-use sw_data::{Octets, OutOfMemory};
+use sw_base::{Octets, OutOfMemory};
 
 /// Pieces that are still to be read, in order; none is empty. Contracts see the list of what is left of them.
 #[derive(Drop)]

@@ -1,4 +1,4 @@
-// A link as the core has it: what is still to come on it is a script, and what was read and written is kept.
+//! A link as the core has it: what is still to come on it is a script, and what was read and written is kept.
 #![tactic(auto)]
 
 mod ahead;

@@ -2,7 +2,7 @@ ghost use Rattle.std.specs.Prelude.{◌≡◌, ◌<◌, [], false, OnOk, OnErr, 
 
 use crate::ahead::Ahead;
 use std::alloc::Global;
-use sw_data::{Octets, OutOfMemory, Pieces};
+use sw_base::{Octets, OutOfMemory, Pieces};
 
 /// A link: what was read of it and what was written on it.
 #[derive(Drop)]

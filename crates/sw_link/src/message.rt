@@ -1,5 +1,6 @@
 use crate::link::Link;
-use sw_data::{Ask, Got, Msg, Session};
+use sw_base::Session;
+use sw_data::{Ask, Got, Msg};
 
 /// A message of the core's pipes, where a session's own number is its ticket.
 pub type Message = Msg<Link, Session>;

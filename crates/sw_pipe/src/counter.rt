@@ -7,7 +7,7 @@ ghost use Rattle.std.specs.Prelude.{◌≡◌, ℕ, ◌+◌, ◌*◌, ◌≤◌,
 use crate::tally::{Adds, Counts, Deals, Joins, Sees, Settles, Starts, Tally};
 use atomic_table::{Seat, Table};
 use std::alloc::Global;
-use sw_data::OutOfMemory;
+use sw_base::OutOfMemory;
 
 /// What a sender counts with, or the taker until it deals it out.
 pub type Share = Seat<(), Tally>;

@@ -9,7 +9,7 @@ use crate::shared::{Line, Shared};
 use crate::taker::Taker;
 use std::alloc::Global;
 use std::sync::Arc;
-use sw_data::OutOfMemory;
+use sw_base::OutOfMemory;
 
 /// Makes pipes.
 pub struct Pipe;

@@ -13,7 +13,7 @@ use crossbeam_queue::Pass;
 use std::alloc::Global;
 use std::marker::Model;
 use std::sync::{Arc, Wait};
-use sw_data::OutOfMemory;
+use sw_base::OutOfMemory;
 
 /// The one who takes. Contracts see its pipe, what it took, each with what its sender had learnt,
 /// and the counts that it learnt.

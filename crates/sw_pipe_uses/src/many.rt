@@ -6,7 +6,7 @@ use std::snapshot::Snapshot;
 use std::sync::Wait;
 use std::thread;
 use std::thread::{Promise, PromisedHandle, Threads, join_promised};
-use sw_data::OutOfMemory;
+use sw_base::OutOfMemory;
 use sw_pipe::{Full, Sender, Taker};
 
 /// The `at`-th message of a thread.

@@ -5,7 +5,7 @@ use std::alloc::Global;
 use std::sync::Wait;
 use std::thread;
 use std::thread::Threads;
-use sw_data::OutOfMemory;
+use sw_base::OutOfMemory;
 use sw_pipe::{Left, Pipe, Sender, Short, Taker, close};
 
 fn push_one<M: Drop, R: Wait>(rt: &R, mut sender: Sender<M>, message: M) -> Sender<M>

@@ -6,7 +6,7 @@ use std::alloc::Global;
 use std::sync::Wait;
 use std::thread;
 use std::thread::Threads;
-use sw_data::OutOfMemory;
+use sw_base::OutOfMemory;
 use sw_pipe::{Pipe, Taker, close};
 
 // Whether this is the next item of its thread.

@@ -1,5 +1,5 @@
-// The reactor: it owns the connection, reads its packets and pushes them to the connection's worker, and writes
-// what handlers send back.
+//! The reactor: it owns the connection, reads its packets and pushes them to the connection's worker, and writes
+//! what handlers send back.
 #![tactic(auto)]
 
 mod reactor;

@@ -2,8 +2,9 @@ ghost use Rattle.std.specs.Prelude.{◌≡◌, ◌%◌};
 ghost use Rattle.sw_reactor.specs.Place.{worker_of, ended_of};
 
 use std::alloc::Global;
+use sw_base::{Octets, OutOfMemory, Session};
 use sw_conn::{Asked, Choice, Conn, FitFraming};
-use sw_data::{Ask, Cause, Ended, Got, Msg, Octets, OutOfMemory, Session, Target, fixed};
+use sw_data::{Ask, Cause, Ended, Got, Msg, Target, fixed};
 use sw_frame::Cutter;
 use sw_link::{Asks, Gets, Link, Message, Script};
 

@@ -1,4 +1,5 @@
-use sw_data::{Ended, Items, Log, Octets, Pieces};
+use sw_base::{Items, Octets, Pieces};
+use sw_data::{Ended, Log};
 
 /// How far a link came.
 #[derive(Drop)]

@@ -1,4 +1,4 @@
-use sw_data::Octets;
+use sw_base::Octets;
 
 /// An actor by its kind and number.
 #[derive(Clone, Copy, Debug, PartialEq, Eq)]

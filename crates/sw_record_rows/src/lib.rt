@@ -1,5 +1,5 @@
-// Wrong records, each refused by the definition that is there to refuse it: so none of these definitions holds of
-// everything. That they hold of something is told by each account of the core.
+//! Wrong records, each refused by the definition that is there to refuse it: so none of these definitions holds of
+//! everything. That they hold of something is told by each account of the core.
 #![tactic(auto)]
 
 ghost use Rattle.std.specs.Prelude.{[], ◌∷◌, true, false};

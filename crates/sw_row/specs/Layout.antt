@@ -1,8 +1,8 @@
 -- How the values of a row stand in its bytes: column behind column, each in as many bytes as it is wide.
 use Rattle.std.specs.Prelude.{ℕ, ◌+◌, List, [], ◌∷◌, take, drop, sum_by, ◌==◌, if◌then◌else◌, ℤ, pos}
 use Rattle.std.specs.Int.{w8, w16, w32, w64, from_le_bytes, to_le_bytes, cast_signed, cast_unsigned}
-use Rattle.sw_data.specs.declared.table.Value.{Value}
-use Rattle.sw_data.specs.declared.table.Value.TheVariants as values
+use Rattle.sw_base.specs.declared.table.Value.{Value}
+use Rattle.sw_base.specs.declared.table.Value.TheVariants as values
 use Rattle.sw_column.specs.declared.column.Column.{Column}
 use Rattle.sw_column.specs.declared.column.Kind.{Kind}
 use Rattle.sw_column.specs.declared.column.Kind.TheVariants.{Int, Text, Float}

@@ -2,7 +2,7 @@
 use Rattle.std.specs.Prelude.{ℕ, List, [], ◌∷◌, Option, Some, None}
 use Rattle.std.specs.declared.boxed.Box.{Box}
 use Rattle.std.specs.declared.alloc.Global.{Global}
-use Rattle.sw_data.specs.declared.table.Value.{Value}
+use Rattle.sw_base.specs.declared.table.Value.{Value}
 use Rattle.sw_column.specs.declared.column.Column.{Column}
 
 -- a row: its key, the columns that it was packed for, and a value for each

@@ -1,6 +1,6 @@
 //! What a row holds, in place.
 ghost use Rattle.std.specs.Prelude.{◌≡◌, ◌<◌, length, take, slice_get, slice_set, Some, IsTrue, IfSome};
-ghost use Rattle.sw_data.specs.declared.table.Value.TheVariants as values;
+ghost use Rattle.sw_base.specs.declared.table.Value.TheVariants as values;
 ghost use Rattle.sw_column.specs.declared.column.Kind.TheVariants as kinds;
 ghost use Rattle.sw_column.specs.Fit.{is_key};
 ghost use Rattle.sw_column.specs.Values.{HasKinds, IsRow, holds};

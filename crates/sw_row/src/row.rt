@@ -1,6 +1,6 @@
 //! A row with a place for one boxed row behind it.
 ghost use Rattle.std.specs.Prelude.{◌≡◌, ◌<◌, ◌≤◌, ◌∷◌, [], length, take, slice_get, slice_set, Some, IsTrue, IfSome, IfNone};
-ghost use Rattle.sw_data.specs.declared.table.Value.TheVariants as values;
+ghost use Rattle.sw_base.specs.declared.table.Value.TheVariants as values;
 ghost use Rattle.sw_column.specs.declared.column.Kind.TheVariants as kinds;
 ghost use Rattle.sw_column.specs.Fit.{is_key};
 ghost use Rattle.sw_column.specs.Values.{HasKinds, IsRow, holds};
@@ -14,7 +14,6 @@ use sw_column::{RowBuf, Schema};
 
 /// A row of fixed size: its key and its values stand in place, so that moving it takes no memory. Behind it is a place
 /// for one boxed row.
-#[derive(Drop)]
 pub struct Row {
     content: Content,
     next: Option<Box<Row>>,
@@ -34,6 +33,19 @@ impl Model for Row {
     ghost size = { λ r. length r.behind };
 
     ghost size_decreases = { λ a h. Prim.grind arith };
+}
+
+impl Drop for Row {
+    // A loop, so that a long chain of rows doesn't run out of stack.
+    fn drop(mut self) {
+        loop {
+            let Row { content: _, next } = self;
+            match next {
+                None => return,
+                Some(row) => self = Box::into_inner(row),
+            }
+        }
+    }
 }
 
 impl Row {
@@ -132,6 +144,17 @@ impl Row {
         ensures some { IfSome result (λ r. self.now.behind ≡ r.now.here ∷ r.now.behind) }
     {
         match &self.next {
+            None => None,
+            Some(row) => Some(row),
+        }
+    }
+
+    /// The row behind this one, lent to be written. None comes exactly where the place is empty.
+    pub fn next_mut(&mut self) -> Option<&mut Row>
+        ensures none { IfNone result (self.old.behind ≡ []) }
+        ensures some { IfSome result (λ r. self.old.behind ≡ r.now.here ∷ r.now.behind) }
+    {
+        match &mut self.next {
             None => None,
             Some(row) => Some(row),
         }

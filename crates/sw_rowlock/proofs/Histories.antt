@@ -4,7 +4,7 @@ use Rattle.std.proofs.lemmas.List.Elements.{All-append, All-replicate}
 use mathlib.Core.Option.{some, some-injective, some-ne-none}
 use lib.ListN.{get_elem?}
 use Rattle.sw_rowlock.specs.Rule.{total}
-use Rattle.sw_rowlock.specs.History.{below, calls, others, owns, Begins, Each, times_drawn, merged, draws_from, draws_of, placed_from, DrewAll, after}
+use Rattle.sw_rowlock.specs.History.{below, calls, others, owns, Begins, AllBegin, Each, times_drawn, merged, draws_from, draws_of, placed_from, DrewAll, after}
 
 -- 1 where p is n
 abbrev pub here : ℕ → ℕ → ℕ
@@ -73,9 +73,22 @@ below_one zero (suc n) = omega arith
 below_one (suc p) (suc n) = below_one p n
 
 module _ {Q : Type 0} where
-  pub each_more : (P : Q → Type 0) (qs : List Q) (q : Q) → Each P qs → P q → Each P (qs ++ q ∷ [])
-  each_more P [] q e p = (p, tt)
-  each_more P (x ∷ qs) q e p = (e.0, each_more P qs q e.1 p)
+  each_more : (P : ℕ → Q → Type 0) (n : ℕ) (qs : List Q) (q : Q) → Each P n qs → P (n + length qs) q → Each P n (qs ++ q ∷ [])
+  each_more P n [] q e p = (subst (λ (z : ℕ). P z q) (zero_more n) p, tt)
+    where
+      zero_more : (n : ℕ) → n + 0 ≡ n
+      zero_more n = omega arith
+  each_more P n (x ∷ qs) q e p = (e.0, each_more P (suc n) qs q e.1 (subst (λ (z : ℕ). P z q) (one_more n (length qs)) p))
+    where
+      one_more : (n m : ℕ) → n + suc m ≡ suc n + m
+      one_more n m = omega arith
+
+  -- a further call at the end
+  pub each_all : (P : ℕ → Q → Type 0) (qs : List Q) (q : Q) → Each P 0 qs → P (length qs) q → Each P 0 (qs ++ q ∷ [])
+  each_all P qs q e p = each_more P 0 qs q e (subst (λ (z : ℕ). P z q) (none_more (length qs)) p)
+    where
+      none_more : (n : ℕ) → n ≡ 0 + n
+      none_more n = omega arith
 
   pub mark_others : (p : ℕ) (qs : List Q) → times_drawn p (others qs) ≡ 0
   mark_others p [] = refl
@@ -142,6 +155,16 @@ module _ {Q : Type 0} where
   mark_merged p (x ∷ xs) [] = omega arith
   mark_merged zero (x ∷ xs) (y ∷ ys) = refl
   mark_merged (suc p) (x ∷ xs) (y ∷ ys) = mark_merged p xs ys
+
+  pub all_more : (xss : List (List Q)) (log : List Q) (q : Q) → AllBegin xss log → AllBegin xss (log ++ q ∷ [])
+  all_more [] log q a = tt
+  all_more (xs ∷ xss) log q a = (begins_more (others xs) log q a.0, all_more xss log q a.1)
+
+  -- what two seats had learnt, and what the other one had seen
+  pub all_join : (xss yss : List (List Q)) (zs log : List Q) → AllBegin xss log → AllBegin yss log → Begins (others zs) log → AllBegin (xss ++ (yss ++ zs ∷ [])) log
+  all_join [] [] zs log a b c = (c, tt)
+  all_join [] (ys ∷ yss) zs log a b c = (b.0, all_join [] yss zs log tt b.1 c)
+  all_join (xs ∷ xss) yss zs log a b c = (a.0, all_join xss yss zs log a.1 b c)
 
   -- where all places are marked, all the log was seen, and is one's own
   pub all_owned : (xs : List (ℕ × Q)) (log : List Q) → Begins xs log → ((p : ℕ) → times_drawn p xs ≡ below p (length log)) → (calls xs ≡ log) × (xs ≡ owns (calls xs))

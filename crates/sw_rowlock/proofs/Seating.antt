@@ -13,7 +13,7 @@ use Rattle.sw_rowlock.specs.declared.calls.Contents.{Contents}
 use Rattle.sw_rowlock.specs.declared.calls.Slot.{Slot}
 use Rattle.sw_rowlock.specs.declared.calls.Slot.TheVariants.{Row, Pool, Empty}
 use Rattle.sw_rowlock.specs.declared.view.View.{View}
-use Rattle.sw_rowlock.specs.History.{calls, others, Each, times_drawn, draws_of}
+use Rattle.sw_rowlock.specs.History.{calls, others, AllBegin, Each, times_drawn, draws_of}
 use Rattle.sw_rowlock.specs.Rule.{word_at, In, Places, Without, knows, refused, Locked, Takes, TookOne, Looks, Looked, Draws, DrewOne, Touches}
 use Rattle.sw_rowlock.specs.Calls.{Done, Counts, counted, contents, cells, count_of, done, effect, left_by, changes_of, counted_all}
 use Rattle.sw_rowlock.specs.Seats.{all_parts, LocksNow, SeatNow, IsSeatOf, row_in, pool_in, row_part, pool_part, held_of, empties, row_first, pool_last, RowNear, seat_of, Carries, IsSeat, HoldsRow, HoldsPool, bucket_held, row_left, pool_left, done_on, row_then, pool_then, held_then}
@@ -119,10 +119,10 @@ module _ {B P Q : Type 0} where
       subst (λ (z : Contents B P). Carries z p) same record { held = s.held; carried = s.carried; near = s.near }
 
   -- a seat with this view and these slots
-  pub seats : (id : TableId) (start : Contents B P) (parts : ℕ) (seen : List (ℕ × Q)) (r : Option (ℕ × B)) (po : Option P) (rf : List (ℕ × ℕ)) (p q : Place B P Q) → Sits id start p → q.table_id ≡ p.table_id → RowNear (length start.rows) r
-      → q.me ≡ (knows parts p.me.0.start seen (held_of (length start.rows) r po) rf, empties (held_of (length start.rows) r po))
-      → Sits id start q × (seat_of q ≡ record (seat_of p) { parts = parts; seen = seen; row = r; pool = po; refusals = rf })
-  seats id start parts seen r po rf p q s of near me =
+  pub seats : (id : TableId) (start : Contents B P) (parts : ℕ) (seen : List (ℕ × Q)) (r : Option (ℕ × B)) (po : Option P) (rf : List (ℕ × ℕ)) (al : List (List Q)) (p q : Place B P Q) → Sits id start p → q.table_id ≡ p.table_id → RowNear (length start.rows) r
+      → q.me ≡ (knows parts p.me.0.start seen (held_of (length start.rows) r po) rf al, empties (held_of (length start.rows) r po))
+      → Sits id start q × (seat_of q ≡ record (seat_of p) { parts = parts; seen = seen; row = r; pool = po; refusals = rf; also = al })
+  seats id start parts seen r po rf al p q s of near me =
       let row : row_at q ≡ r = ap (λ (m : Mine B P Q). row_in m.0.held) me ∙ row_in_held (length start.rows) r po in
       let pool : pool_at q ≡ po = ap (λ (m : Mine B P Q). pool_in m.0.held) me ∙ pool_in_held (length start.rows) r po in (
         record {
@@ -132,15 +132,15 @@ module _ {B P Q : Type 0} where
           carried = ap (λ (m : Mine B P Q). m.1) me ∙ (λ k. empties (held_of (length start.rows) (sym row k) (sym pool k)));
           near = subst (λ (z : Option (ℕ × B)). RowNear (length start.rows) z) (sym row) near;
         },
-        (λ k. record { id = of k; start = (me k).0.start; parts = (me k).0.parts; seen = (me k).0.seen; row = row k; pool = pool k; refusals = (me k).0.refusals }),
+        (λ k. record { id = of k; start = (me k).0.start; parts = (me k).0.parts; seen = (me k).0.seen; row = row k; pool = pool k; refusals = (me k).0.refusals; also = (me k).0.also }),
       )
 
   -- an exchange that was refused changes the refusals alone
   pub refused_seat : (id : TableId) (start : Contents B P) (lock found : ℕ) (p q : Place B P Q) → Sits id start p → q.table_id ≡ p.table_id → q.me ≡ refused lock found p.me
       → Sits id start q × (seat_of q ≡ record (seat_of p) { refusals = (lock, found) ∷ p.me.0.refusals })
   refused_seat id start lock found p q s of me =
-      seats id start p.me.0.parts p.me.0.seen (row_at p) (pool_at p) ((lock, found) ∷ p.me.0.refusals) p q s of s.near
-      (me ∙ (λ k. (knows p.me.0.parts p.me.0.start p.me.0.seen (s.held k) ((lock, found) ∷ p.me.0.refusals), s.carried k)))
+      seats id start p.me.0.parts p.me.0.seen (row_at p) (pool_at p) ((lock, found) ∷ p.me.0.refusals) p.me.0.also p q s of s.near
+      (me ∙ (λ k. (knows p.me.0.parts p.me.0.start p.me.0.seen (s.held k) ((lock, found) ∷ p.me.0.refusals) p.me.0.also, s.carried k)))
 
   pub alone_held : (id : TableId) (start : Contents B P) (p : Place B P Q) → Sits id start p → row_at p ≡ None → pool_at p ≡ None → p.me.0.held ≡ []
   alone_held id start p s r o = s.held ∙ (λ k. held_of (length start.rows) (r k) (o k))
@@ -187,7 +187,7 @@ module _ {B P : Type 0} where
   held_more n (Some r) x = refl
 
 -- taking and giving
-module _ {B P Q R : Type 0} (may : Contents B P → Q → Type 0) (row : Q → Option ℕ) (needs : Q → Option B → Bool) (does : Q → Option B → Option P → ℕ → Done B P R) where
+module _ {B P Q R : Type 0} (may : Contents B P → ℕ → Q → Type 0) (row : Q → Option ℕ) (needs : Q → Option B → Bool) (does : Q → Option B → Option P → ℕ → Done B P R) where
   abbrev pub Rules : Contents B P → State (Slot B P) (View (Slot B P) Q (Contents B P)) → Type 0
   Rules start = Locked (effect row needs does) cells count_of may all_parts (suc (length start.rows)) start
 
@@ -213,7 +213,7 @@ module _ {B P Q R : Type 0} (may : Contents B P → Q → Type 0) (row : Q → O
       let t = left_by row needs does start k.so_far in
       let l : length t.rows ≡ length start.rows = length_after row needs does start k.so_far in
       let f = row_of_cell t.rows t.pool b (omega (arith, l, near)) in
-      (f.0, some-injective k.value (Row f.0) (sym k.left ∙ f.2), record { so_far = k.so_far; allowed = k.allowed; begins = k.begins; value = f.1; whole = λ all. let w = k.whole all in drew_whole p.me.0.seen k.so_far w.0 w.1 })
+      (f.0, some-injective k.value (Row f.0) (sym k.left ∙ f.2), record { so_far = k.so_far; allowed = k.allowed; begins = k.begins; also = k.also; value = f.1; whole = λ all. let w = k.whole all in drew_whole p.me.0.seen k.so_far w.0 w.1 })
 
   found_pool : (start : Contents B P) (p p1 : Place B P Q)
       → (k : TookOne (effect row needs does) cells count_of may all_parts (length start.rows) (pool_last (length start.rows)) start p.me p1.me)
@@ -222,7 +222,7 @@ module _ {B P Q R : Type 0} (may : Contents B P → Q → Type 0) (row : Q → O
       let t = left_by row needs does start k.so_far in
       let l : length t.rows ≡ length start.rows = length_after row needs does start k.so_far in
       let f = pool_cell t.rows t.pool in
-      (t.pool, some-injective k.value (Pool t.pool) (sym k.left ∙ ap (λ (z : ℕ). get_elem? (cells t) z) (sym l) ∙ f), record { so_far = k.so_far; allowed = k.allowed; begins = k.begins; value = refl; whole = λ all. let w = k.whole all in drew_whole p.me.0.seen k.so_far w.0 w.1 })
+      (t.pool, some-injective k.value (Pool t.pool) (sym k.left ∙ ap (λ (z : ℕ). get_elem? (cells t) z) (sym l) ∙ f), record { so_far = k.so_far; allowed = k.allowed; begins = k.begins; also = k.also; value = refl; whole = λ all. let w = k.whole all in drew_whole p.me.0.seen k.so_far w.0 w.1 })
 
   -- a row was taken, and its value moved out
   pub took_row : (id : TableId) (start : Contents B P) (b : ℕ) (p p1 p2 : Place B P Q) (out : Slot B P) → b < length start.rows → Sits id start p → row_at p ≡ None
@@ -236,10 +236,10 @@ module _ {B P Q R : Type 0} (may : Contents B P → Q → Type 0) (row : Q → O
       let is : out ≡ k.value = ap (λ (l : List (ℕ × Slot B P)). head_or k.value l) (sym was ∙ m1) in
       let others_same : rest p1.me.1 ≡ p.me.1 = ap (λ (l : List (ℕ × Slot B P)). rest l) m1 in
       let alone : held_of n (row_at p) (pool_at p) ≡ pool_part n (pool_at p) = ap (λ (r : Option (ℕ × B)). held_of n r (pool_at p)) free in
-      let me2 : p2.me ≡ (knows p.me.0.parts p.me.0.start p.me.0.seen (held_of n (Some (b, f.0)) (pool_at p)) p.me.0.refusals, empties (held_of n (Some (b, f.0)) (pool_at p))) =
+      let me2 : p2.me ≡ (knows p.me.0.parts p.me.0.start p.me.0.seen (held_of n (Some (b, f.0)) (pool_at p)) p.me.0.refusals p.me.0.also, empties (held_of n (Some (b, f.0)) (pool_at p))) =
       now ∙ (λ i. ((k.now i).0, (b, Empty) ∷ others_same i))
-      ∙ (λ i. (knows p.me.0.parts p.me.0.start p.me.0.seen ((b, f.1 i) ∷ (s.held ∙ alone) i) p.me.0.refusals, (b, Empty) ∷ (s.carried ∙ ap (λ (h : List (ℕ × Slot B P)). empties h) alone) i)) in
-      let t = seats id start p.me.0.parts p.me.0.seen (Some (b, f.0)) (pool_at p) p.me.0.refusals p p2 s (of2 ∙ of1) near me2 in
+      ∙ (λ i. (knows p.me.0.parts p.me.0.start p.me.0.seen ((b, f.1 i) ∷ (s.held ∙ alone) i) p.me.0.refusals p.me.0.also, (b, Empty) ∷ (s.carried ∙ ap (λ (h : List (ℕ × Slot B P)). empties h) alone) i)) in
+      let t = seats id start p.me.0.parts p.me.0.seen (Some (b, f.0)) (pool_at p) p.me.0.refusals p.me.0.also p p2 s (of2 ∙ of1) near me2 in
       (f.0, is ∙ f.1, t.0, t.1, f.2)
 
   pub took_row_as : (id : TableId) (start : Contents B P) (b : ℕ) (p p1 p2 : Place B P Q) (out : Slot B P) (y : B) → out ≡ Row y → b < length start.rows → Sits id start p → row_at p ≡ None
@@ -270,9 +270,9 @@ module _ {B P Q R : Type 0} (may : Contents B P → Q → Type 0) (row : Q → O
       let c : p.me.1 ≡ empties (held_of n r None) = s.carried ∙ ap (λ (o : Option P). empties (held_of n r o)) free in
       let held : p.me.0.held ++ (n, k.value) ∷ [] ≡ held_of n r (Some f.0) = (λ i. h i ++ (n, f.1 i) ∷ []) ∙ held_more n r f.0 in
       let slots : turned ((n, Empty) ∷ p.me.1) ≡ empties (held_of n r (Some f.0)) = (λ i. turned ((n, Empty) ∷ c i)) ∙ turned_back n r f.0 in
-      let me3 : p3.me ≡ (knows p.me.0.parts p.me.0.start p.me.0.seen (held_of n r (Some f.0)) p.me.0.refusals, empties (held_of n r (Some f.0))) =
-      now3 ∙ (λ i. ((now i).0, turned (now i).1)) ∙ (λ i. ((k.now i).0, turned ((n, Empty) ∷ others_same i))) ∙ (λ i. (knows p.me.0.parts p.me.0.start p.me.0.seen (held i) p.me.0.refusals, slots i)) in
-      let t = seats id start p.me.0.parts p.me.0.seen r (Some f.0) p.me.0.refusals p p3 s (of3 ∙ of2 ∙ of1) s.near me3 in
+      let me3 : p3.me ≡ (knows p.me.0.parts p.me.0.start p.me.0.seen (held_of n r (Some f.0)) p.me.0.refusals p.me.0.also, empties (held_of n r (Some f.0))) =
+      now3 ∙ (λ i. ((now i).0, turned (now i).1)) ∙ (λ i. ((k.now i).0, turned ((n, Empty) ∷ others_same i))) ∙ (λ i. (knows p.me.0.parts p.me.0.start p.me.0.seen (held i) p.me.0.refusals p.me.0.also, slots i)) in
+      let t = seats id start p.me.0.parts p.me.0.seen r (Some f.0) p.me.0.refusals p.me.0.also p p3 s (of3 ∙ of2 ∙ of1) s.near me3 in
       (f.0, is ∙ f.1, t.0, t.1, f.2)
 
   pub took_pool_as : (id : TableId) (start : Contents B P) (w : ℕ) (p p1 p2 p3 : Place B P Q) (out : Slot B P) (y : P) → out ≡ Pool y → w ≡ length start.rows → Sits id start p → pool_at p ≡ None
@@ -288,7 +288,7 @@ module _ {B P Q R : Type 0} (may : Contents B P → Q → Type 0) (row : Q → O
   -- a row is given back
   pub gives_row : (id : TableId) (start : Contents B P) (slots w b : ℕ) (y : B) (p p1 : Place B P Q) → w ≡ b * 8 → Sits id start p → row_at p ≡ Some (b, y) → 0 < p.me.0.parts
       → p1.me ≡ (p.me.0, (b, Row y) ∷ rest p.me.1)
-      → Allows (Rules start) slots p1.id p1.me w (λ _. 0) (λ _ n. n ≡ (knows p1.me.0.parts p1.me.0.start p1.me.0.seen (rest p1.me.0.held) p1.me.0.refusals, rest p1.me.1))
+      → Allows (Rules start) slots p1.id p1.me w (λ _. 0) (λ _ n. n ≡ (knows p1.me.0.parts p1.me.0.start p1.me.0.seen (rest p1.me.0.held) p1.me.0.refusals p1.me.0.also, rest p1.me.1))
   gives_row id start slots w b y p p1 e s holds some_part me =
       let n = length start.rows in let po = pool_at p in
       let near : b < n = near_row id start p (b, y) s holds in
@@ -296,15 +296,15 @@ module _ {B P Q R : Type 0} (may : Contents B P → Q → Type 0) (row : Q → O
       let h1 : p1.me.0.held ≡ (b, Row y) ∷ pool_part n po = ap (λ (m : Mine B P Q). m.0.held) me ∙ h in
       let c1 : p1.me.1 ≡ (b, Row y) ∷ rest p.me.1 = ap (λ (m : Mine B P Q). m.1) me in
       let parts : p1.me.0.parts ≡ p.me.0.parts = ap (λ (m : Mine B P Q). m.0.parts) me in
-      subst (λ (z : ℕ). Allows (Rules start) slots p1.id p1.me z (λ _. 0) (λ _ m. m ≡ (knows p1.me.0.parts p1.me.0.start p1.me.0.seen (rest p1.me.0.held) p1.me.0.refusals, rest p1.me.1))) (sym e)
+      subst (λ (z : ℕ). Allows (Rules start) slots p1.id p1.me z (λ _. 0) (λ _ m. m ≡ (knows p1.me.0.parts p1.me.0.start p1.me.0.seen (rest p1.me.0.held) p1.me.0.refusals p1.me.0.also, rest p1.me.1))) (sym e)
       (gives_lock (effect row needs does) cells count_of may all_parts (suc n) start slots p1.id b p1.me.0 p1.me.1 (rest p.me.1) (Row y) (rest p1.me.0.held)
-      (λ z. z ≡ (knows p1.me.0.parts p1.me.0.start p1.me.0.seen (rest p1.me.0.held) p1.me.0.refusals, rest p1.me.1)) (omega (arith, near)) (omega (arith, parts, some_part)) c1
+      (λ z. z ≡ (knows p1.me.0.parts p1.me.0.start p1.me.0.seen (rest p1.me.0.held) p1.me.0.refusals p1.me.0.also, rest p1.me.1)) (omega (arith, near)) (omega (arith, parts, some_part)) c1
       (subst (λ (l : List (ℕ × Slot B P)). In (b, Row y) l) (sym h1) (inl refl)) (subst (λ (l : List (ℕ × Slot B P)). Without b l (rest l)) (sym h1) (out_row n b (Row y) po near))
-      (λ k. (knows p1.me.0.parts p1.me.0.start p1.me.0.seen (rest p1.me.0.held) p1.me.0.refusals, rest (sym c1 k))))
+      (λ k. (knows p1.me.0.parts p1.me.0.start p1.me.0.seen (rest p1.me.0.held) p1.me.0.refusals p1.me.0.also, rest (sym c1 k))))
 
   pub gives_pool : (id : TableId) (start : Contents B P) (slots w v : ℕ) (y : P) (p p0 p1 : Place B P Q) → w ≡ length start.rows → v ≡ w * 8 → Sits id start p → pool_at p ≡ Some y → 0 < p.me.0.parts
       → p0.me ≡ (p.me.0, turned p.me.1) → p1.me ≡ (p0.me.0, (w, Pool y) ∷ rest p0.me.1)
-      → Allows (Rules start) slots p1.id p1.me v (λ _. 0) (λ _ n. n ≡ (knows p1.me.0.parts p1.me.0.start p1.me.0.seen (row_part (row_in p1.me.0.held) []) p1.me.0.refusals, rest p1.me.1))
+      → Allows (Rules start) slots p1.id p1.me v (λ _. 0) (λ _ n. n ≡ (knows p1.me.0.parts p1.me.0.start p1.me.0.seen (row_part (row_in p1.me.0.held) []) p1.me.0.refusals p1.me.0.also, rest p1.me.1))
   gives_pool id start slots w v y p p0 p1 e ev s holds some_part me0 me' =
       let n = length start.rows in let r = row_at p in
       let me : p1.me ≡ (p0.me.0, (n, Pool y) ∷ rest p0.me.1) = me' ∙ (λ k. (p0.me.0, (e k, Pool y) ∷ rest p0.me.1)) in
@@ -313,37 +313,37 @@ module _ {B P Q R : Type 0} (may : Contents B P → Q → Type 0) (row : Q → O
       let h1 : p1.me.0.held ≡ held_of n r (Some y) = ap (λ (m : Mine B P Q). m.0.held) me ∙ ap (λ (m : Mine B P Q). m.0.held) me0 ∙ h in
       let c1 : p1.me.1 ≡ (n, Pool y) ∷ rest p0.me.1 = ap (λ (m : Mine B P Q). m.1) me in
       let parts : p1.me.0.parts ≡ p.me.0.parts = ap (λ (m : Mine B P Q). m.0.parts) me ∙ ap (λ (m : Mine B P Q). m.0.parts) me0 in
-      subst (λ (z : ℕ). Allows (Rules start) slots p1.id p1.me z (λ _. 0) (λ _ m. m ≡ (knows p1.me.0.parts p1.me.0.start p1.me.0.seen (row_part (row_in p1.me.0.held) []) p1.me.0.refusals, rest p1.me.1))) (sym at)
+      subst (λ (z : ℕ). Allows (Rules start) slots p1.id p1.me z (λ _. 0) (λ _ m. m ≡ (knows p1.me.0.parts p1.me.0.start p1.me.0.seen (row_part (row_in p1.me.0.held) []) p1.me.0.refusals p1.me.0.also, rest p1.me.1))) (sym at)
       (gives_lock (effect row needs does) cells count_of may all_parts (suc n) start slots p1.id n p1.me.0 p1.me.1 (rest p0.me.1) (Pool y) (row_part (row_in p1.me.0.held) [])
-      (λ z. z ≡ (knows p1.me.0.parts p1.me.0.start p1.me.0.seen (row_part (row_in p1.me.0.held) []) p1.me.0.refusals, rest p1.me.1)) (omega arith) (omega (arith, parts, some_part)) c1
+      (λ z. z ≡ (knows p1.me.0.parts p1.me.0.start p1.me.0.seen (row_part (row_in p1.me.0.held) []) p1.me.0.refusals p1.me.0.also, rest p1.me.1)) (omega arith) (omega (arith, parts, some_part)) c1
       (subst (λ (l : List (ℕ × Slot B P)). In (n, Pool y) l) (sym h1) (in_held n r y))
       (subst (λ (l : List (ℕ × Slot B P)). Without n l (row_part (row_in l) [])) (sym h1) (subst (λ (o : Option (ℕ × B)). Without n (held_of n r (Some y)) (row_part o [])) (sym (row_in_held n r (Some y))) (out_pool n r y s.near)))
-      (λ k. (knows p1.me.0.parts p1.me.0.start p1.me.0.seen (row_part (row_in p1.me.0.held) []) p1.me.0.refusals, rest (sym c1 k))))
+      (λ k. (knows p1.me.0.parts p1.me.0.start p1.me.0.seen (row_part (row_in p1.me.0.held) []) p1.me.0.refusals p1.me.0.also, rest (sym c1 k))))
 
 module _ {B P Q : Type 0} where
   pub gave_row : (id : TableId) (start : Contents B P) (b : ℕ) (y : B) (p p1 p2 : Place B P Q) → Sits id start p → row_at p ≡ Some (b, y) → p1.table_id ≡ p.table_id
-      → p1.me ≡ (p.me.0, (b, Row y) ∷ rest p.me.1) → p2.table_id ≡ p1.table_id → p2.me ≡ (knows p1.me.0.parts p1.me.0.start p1.me.0.seen (rest p1.me.0.held) p1.me.0.refusals, rest p1.me.1)
+      → p1.me ≡ (p.me.0, (b, Row y) ∷ rest p.me.1) → p2.table_id ≡ p1.table_id → p2.me ≡ (knows p1.me.0.parts p1.me.0.start p1.me.0.seen (rest p1.me.0.held) p1.me.0.refusals p1.me.0.also, rest p1.me.1)
       → Sits id start p2 × (seat_of p2 ≡ record (seat_of p) { row = None })
   gave_row id start b y p p1 p2 s holds of1 me of2 me2 =
       let n = length start.rows in let po = pool_at p in
       let h : p.me.0.held ≡ (b, Row y) ∷ pool_part n po = s.held ∙ ap (λ (r : Option (ℕ × B)). held_of n r po) holds in
       let c : p.me.1 ≡ (b, Empty) ∷ empties (pool_part n po) = s.carried ∙ ap (λ (r : Option (ℕ × B)). empties (held_of n r po)) holds in
-      seats id start p.me.0.parts p.me.0.seen None po p.me.0.refusals p p2 s (of2 ∙ of1) tt
-      (me2 ∙ (λ k. (knows (me k).0.parts (me k).0.start (me k).0.seen (rest (me k).0.held) (me k).0.refusals, rest (me k).1)) ∙ (λ k. (knows p.me.0.parts p.me.0.start p.me.0.seen (rest (h k)) p.me.0.refusals, rest (c k))))
+      seats id start p.me.0.parts p.me.0.seen None po p.me.0.refusals p.me.0.also p p2 s (of2 ∙ of1) tt
+      (me2 ∙ (λ k. (knows (me k).0.parts (me k).0.start (me k).0.seen (rest (me k).0.held) (me k).0.refusals (me k).0.also, rest (me k).1)) ∙ (λ k. (knows p.me.0.parts p.me.0.start p.me.0.seen (rest (h k)) p.me.0.refusals p.me.0.also, rest (c k))))
 
   pub gave_pool : (id : TableId) (start : Contents B P) (w : ℕ) (y : P) (p p0 p1 p2 : Place B P Q) → w ≡ length start.rows → Sits id start p → pool_at p ≡ Some y → p0.table_id ≡ p.table_id → p0.me ≡ (p.me.0, turned p.me.1)
       → p1.table_id ≡ p0.table_id → p1.me ≡ (p0.me.0, (w, Pool y) ∷ rest p0.me.1)
-      → p2.table_id ≡ p1.table_id → p2.me ≡ (knows p1.me.0.parts p1.me.0.start p1.me.0.seen (row_part (row_in p1.me.0.held) []) p1.me.0.refusals, rest p1.me.1)
+      → p2.table_id ≡ p1.table_id → p2.me ≡ (knows p1.me.0.parts p1.me.0.start p1.me.0.seen (row_part (row_in p1.me.0.held) []) p1.me.0.refusals p1.me.0.also, rest p1.me.1)
       → Sits id start p2 × (seat_of p2 ≡ record (seat_of p) { pool = None })
   gave_pool id start w y p p0 p1 p2 e s holds of0 me0 of1 me' of2 me2 =
       let n = length start.rows in let r = row_at p in
       let me : p1.me ≡ (p0.me.0, (n, Pool y) ∷ rest p0.me.1) = me' ∙ (λ k. (p0.me.0, (e k, Pool y) ∷ rest p0.me.1)) in
       let c : p.me.1 ≡ empties (held_of n r (Some y)) = s.carried ∙ ap (λ (o : Option P). empties (held_of n r o)) holds in
       let t : turned p.me.1 ≡ (n, Empty) ∷ empties (row_part r []) = ap (λ (l : List (ℕ × Slot B P)). turned l) c ∙ turned_empties n r y in
-      seats id start p.me.0.parts p.me.0.seen r None p.me.0.refusals p p2 s (of2 ∙ of1 ∙ of0) s.near
-      (me2 ∙ (λ k. (knows (me k).0.parts (me k).0.start (me k).0.seen (row_part (row_in (me k).0.held) []) (me k).0.refusals, rest (me k).1))
-      ∙ (λ k. (knows (me0 k).0.parts (me0 k).0.start (me0 k).0.seen (row_part (row_in (me0 k).0.held) []) (me0 k).0.refusals, rest (me0 k).1))
-      ∙ (λ k. (knows p.me.0.parts p.me.0.start p.me.0.seen (row_part r []) p.me.0.refusals, rest (t k))))
+      seats id start p.me.0.parts p.me.0.seen r None p.me.0.refusals p.me.0.also p p2 s (of2 ∙ of1 ∙ of0) s.near
+      (me2 ∙ (λ k. (knows (me k).0.parts (me k).0.start (me k).0.seen (row_part (row_in (me k).0.held) []) (me k).0.refusals (me k).0.also, rest (me k).1))
+      ∙ (λ k. (knows (me0 k).0.parts (me0 k).0.start (me0 k).0.seen (row_part (row_in (me0 k).0.held) []) (me0 k).0.refusals (me0 k).0.also, rest (me0 k).1))
+      ∙ (λ k. (knows p.me.0.parts p.me.0.start p.me.0.seen (row_part r []) p.me.0.refusals p.me.0.also, rest (t k))))
 
   -- the slots before the exchange of a give: the row's is in front, and so is the pool's once they are turned
   pub row_in_front : (id : TableId) (start : Contents B P) (b : ℕ) (y : B) (p : Place B P Q) → Sits id start p → row_at p ≡ Some (b, y) → p.me.1 ≡ (b, Empty) ∷ rest p.me.1
@@ -364,17 +364,17 @@ module _ {B P Q : Type 0} where
   was_empty w p out front was = ap (λ (l : List (ℕ × Slot B P)). head_or out l) (sym was ∙ front)
 
   -- a seat is split off: the old one has fewer parts, and the new one has seen the same
-  pub parted : (id : TableId) (start : Contents B P) (k : ℕ) (p q : Place B P Q) → Sits id start p → q.table_id ≡ p.table_id → q.me ≡ (knows k p.me.0.start p.me.0.seen p.me.0.held p.me.0.refusals, p.me.1)
+  pub parted : (id : TableId) (start : Contents B P) (k : ℕ) (p q : Place B P Q) → Sits id start p → q.table_id ≡ p.table_id → q.me ≡ (knows k p.me.0.start p.me.0.seen p.me.0.held p.me.0.refusals p.me.0.also, p.me.1)
       → Sits id start q × (seat_of q ≡ record (seat_of p) { parts = k })
-  parted id start k p q s of me = seats id start k p.me.0.seen (row_at p) (pool_at p) p.me.0.refusals p q s of s.near (me ∙ (λ i. (knows k p.me.0.start p.me.0.seen (s.held i) p.me.0.refusals, s.carried i)))
+  parted id start k p q s of me = seats id start k p.me.0.seen (row_at p) (pool_at p) p.me.0.refusals p.me.0.also p q s of s.near (me ∙ (λ i. (knows k p.me.0.start p.me.0.seen (s.held i) p.me.0.refusals p.me.0.also, s.carried i)))
 
-  pub split_off : (id : TableId) (start : Contents B P) (k : ℕ) (p q : Place B P Q) → Sits id start p → q.table_id ≡ p.table_id → q.me ≡ (knows k p.me.0.start (others (calls p.me.0.seen)) [] [], [])
-      → Sits id start q × (seat_of q ≡ record { id = p.table_id; start = p.me.0.start; parts = k; seen = others (calls p.me.0.seen); row = None; pool = None; refusals = [] })
-  split_off id start k p q s of me = seats id start k (others (calls p.me.0.seen)) None None [] p q s of tt me
+  pub split_off : (id : TableId) (start : Contents B P) (k : ℕ) (p q : Place B P Q) → Sits id start p → q.table_id ≡ p.table_id → q.me ≡ (knows k p.me.0.start (others (calls p.me.0.seen)) [] [] p.me.0.also, [])
+      → Sits id start q × (seat_of q ≡ record { id = p.table_id; start = p.me.0.start; parts = k; seen = others (calls p.me.0.seen); row = None; pool = None; refusals = []; also = p.me.0.also })
+  split_off id start k p q s of me = seats id start k (others (calls p.me.0.seen)) None None [] p.me.0.also p q s of tt me
 
-  pub joined : (id : TableId) (start : Contents B P) (parts : ℕ) (seen : List (ℕ × Q)) (rf : List (ℕ × ℕ)) (p q : Place B P Q) → Sits id start p → q.table_id ≡ p.table_id → q.me ≡ (knows parts p.me.0.start seen p.me.0.held rf, p.me.1)
-      → Sits id start q × (seat_of q ≡ record (seat_of p) { parts = parts; seen = seen; refusals = rf })
-  joined id start parts seen rf p q s of me = seats id start parts seen (row_at p) (pool_at p) rf p q s of s.near (me ∙ (λ i. (knows parts p.me.0.start seen (s.held i) rf, s.carried i)))
+  pub joined : (id : TableId) (start : Contents B P) (parts : ℕ) (seen : List (ℕ × Q)) (rf : List (ℕ × ℕ)) (al : List (List Q)) (p q : Place B P Q) → Sits id start p → q.table_id ≡ p.table_id → q.me ≡ (knows parts p.me.0.start seen p.me.0.held rf al, p.me.1)
+      → Sits id start q × (seat_of q ≡ record (seat_of p) { parts = parts; seen = seen; refusals = rf; also = al })
+  joined id start parts seen rf al p q s of me = seats id start parts seen (row_at p) (pool_at p) rf al p q s of s.near (me ∙ (λ i. (knows parts p.me.0.start seen (s.held i) rf al, s.carried i)))
 
 module _ {B : Type 0} where
   match_row : (r : Option (ℕ × B)) (rows : List B) → RowIs r rows → MatchOption r (Unit {0}) (λ h. slice_get rows h.0 ≡ Some h.1)
@@ -406,7 +406,7 @@ module _ {B P : Type 0} where
   same_empties n (Some b) (Some r) (Some y) nd p pl h g = ap (λ (l : List (ℕ × Slot B P)). (r.0, Empty) ∷ l) (same_pool_part n nd p pl g)
 
 -- looking and drawing
-module _ {B P Q R : Type 0} (may : Contents B P → Q → Type 0) (row : Q → Option ℕ) (needs : Q → Option B → Bool) (does : Q → Option B → Option P → ℕ → Done B P R) where
+module _ {B P Q R : Type 0} (may : Contents B P → ℕ → Q → Type 0) (row : Q → Option ℕ) (needs : Q → Option B → Bool) (does : Q → Option B → Option P → ℕ → Done B P R) where
   -- the sequence word is behind the pool's
   pub looks_at : (start : Contents B P) (slots id w : ℕ) (me : Mine B P Q) → w ≡ suc (length start.rows) * 8 → 0 < me.0.parts
       → Allows (Rules may row needs does start) slots id me w (λ n. n) (Looks (effect row needs does) cells count_of may all_parts me)
@@ -418,23 +418,24 @@ module _ {B P Q R : Type 0} (may : Contents B P → Q → Type 0) (row : Q → O
       → Looked (effect row needs does) cells count_of may all_parts start p.me r p1.me
       → Sits id start p1 × LookedAt may row needs does start (seat_of p) (seat_of p1) r
   looked id start p p1 r s of k =
-      let t = seats id start p.me.0.parts (p.me.0.seen ++ others k.between) (row_at p) (pool_at p) p.me.0.refusals p p1 s of s.near (k.now ∙ (λ i. (knows p.me.0.parts p.me.0.start (p.me.0.seen ++ others k.between) (s.held i) p.me.0.refusals, s.carried i))) in (
+      let t = seats id start p.me.0.parts (p.me.0.seen ++ others k.between) (row_at p) (pool_at p) p.me.0.refusals p.me.0.also p p1 s of s.near (k.now ∙ (λ i. (knows p.me.0.parts p.me.0.start (p.me.0.seen ++ others k.between) (s.held i) p.me.0.refusals p.me.0.also, s.carried i))) in (
         t.0,
         record {
           between = k.between;
-          allowed = subst (λ (l : List Q). Each (may start) l) k.splits k.allowed;
+          allowed = subst (λ (l : List Q). Each (may start) 0 l) k.splits k.allowed;
+          also = subst (λ (l : List Q). AllBegin p.me.0.also l) k.splits k.also;
           now = t.1;
           number = k.number ∙ (λ i. length (k.splits i) * 2097152 + (left_by row needs does start (k.splits i)).count);
           whole = λ all. let w = k.whole all in (none_between (calls p.me.0.seen) k.between (w.0 ∙ k.splits), drew_whole p.me.0.seen (calls p.me.0.seen) refl w.1);
         },
       )
 
-  pub draws_at : (id : TableId) (start : Contents B P) (slots w old new : ℕ) (q : Q) (ch : Change) (p : Place B P Q) → slots ≡ suc (length start.rows) → w ≡ suc (length start.rows) * 8 → Sits id start p → 0 < p.me.0.parts → may start q
+  pub draws_at : (id : TableId) (start : Contents B P) (slots w old new : ℕ) (q : Q) (ch : Change) (p : Place B P Q) → slots ≡ suc (length start.rows) → w ≡ suc (length start.rows) * 8 → Sits id start p → 0 < p.me.0.parts → may start (old / 2097152) q → ((qs : List Q) → (left_by row needs does start qs).count ≤ 1048576)
       → HoldsRow (row q) (row_at p) → HoldsPool (needs q (bucket_held (row q) (row_at p))) (pool_at p)
       → ((c : ℕ) → (done_on row needs does q (row_at p) (pool_at p) c).change ≡ ch) → ((qs : List Q) → Counts (done row needs does q (left_by row needs does start qs)).change (left_by row needs does start qs).count)
       → new ≡ counted ch (old + 2097152)
       → Allows (Rules may row needs does start) slots p.id p.me w (λ r. either (eqb r old) new r) (Draws (effect row needs does) cells count_of may all_parts slots q (held_then row needs does (slots - 1) q p.me.0.held (old % 2097152)) old p.me)
-  draws_at id start slots w old new q ch p es e s part fit hr hp change counts is =
+  draws_at id start slots w old new q ch p es e s part fit small hr hp change counts is =
       let m = length start.rows in
       let en : slots - 1 ≡ m = omega (arith, es) in
       let t = touches row needs does start m old new q (row_at p) (pool_at p) ch refl s.near hr hp change counts is in
@@ -443,7 +444,7 @@ module _ {B P Q R : Type 0} (may : Contents B P → Q → Type 0) (row : Q → O
       (subst (λ (z : ℕ). Touches (effect row needs does) cells count_of start q (held_of m (row_at p) (pool_at p)) (held_then row needs does z q p.me.0.held (old % 2097152)) old new) (sym en) t) in
       subst (λ (z : ℕ). Allows (Rules may row needs does start) slots p.id p.me z (λ r. either (eqb r old) new r) (Draws (effect row needs does) cells count_of may all_parts slots q (held_then row needs does (slots - 1) q p.me.0.held (old % 2097152)) old p.me)) (sym e)
       (subst (λ (z : ℕ). Allows (Rules may row needs does start) slots p.id p.me (word_at (suc m)) (λ r. either (eqb r old) new r) (Draws (effect row needs does) cells count_of may all_parts z q (held_then row needs does (slots - 1) q p.me.0.held (old % 2097152)) old p.me)) (sym es)
-      (draws_call (effect row needs does) cells count_of may all_parts (suc m) start slots p.id old new q (held_then row needs does (slots - 1) q p.me.0.held (old % 2097152)) p.me part fit t1))
+      (draws_call (effect row needs does) cells count_of may all_parts (suc m) start slots p.id old new q (held_then row needs does (slots - 1) q p.me.0.held (old % 2097152)) p.me part (λ qs is_here. let b = small qs in let at : old / 2097152 ≡ length qs = omega (arith, is_here, b) in subst (λ (n : ℕ). may start n q) at fit) t1))
 
   pub drew : (id : TableId) (start : Contents B P) (q : Q) (n old : ℕ) (p p1 : Place B P Q) → n ≡ length start.rows → Sits id start p → p1.table_id ≡ p.table_id
       → HoldsRow (row q) (row_at p) → HoldsPool (needs q (bucket_held (row q) (row_at p))) (pool_at p) → ((qs : List Q) → (left_by row needs does start qs).count ≤ 1048576)
@@ -462,14 +463,15 @@ module _ {B P Q R : Type 0} (may : Contents B P → Q → Type 0) (row : Q → O
       let ri = row_is m (row_at p) (pool_at p) st.rows st.pool long s.near held in
       let pi = pool_is m (row_at p) (pool_at p) st.rows st.pool long held in
       let carried : empties (held_of m (row_at p) (pool_at p)) ≡ empties (held_of m r1 o1) = same_empties m (row q) (row_at p) d.bucket (needs q (bucket_held (row q) (row_at p))) (pool_at p) d.pool hr hp in
-      let t = seats id start p.me.0.parts (seen ++ (others k.between ++ (1, q) ∷ [])) r1 o1 p.me.0.refusals p p1 s of (near_then m (row q) (row_at p) d.bucket s.near)
-      (k.now ∙ (λ i. (knows p.me.0.parts p.me.0.start (seen ++ (others k.between ++ (1, q) ∷ [])) (held_of (is i) r1 o1) p.me.0.refusals, (s.carried ∙ carried) i))) in
+      let t = seats id start p.me.0.parts (seen ++ (others k.between ++ (1, q) ∷ [])) r1 o1 p.me.0.refusals p.me.0.also p p1 s of (near_then m (row q) (row_at p) d.bucket s.near)
+      (k.now ∙ (λ i. (knows p.me.0.parts p.me.0.start (seen ++ (others k.between ++ (1, q) ∷ [])) (held_of (is i) r1 o1) p.me.0.refusals p.me.0.also, (s.carried ∙ carried) i))) in
       let does_it : done row needs does q st ≡ d = done_same row needs does m st q (row_at p) (pool_at p) long hr hp ri pi ∙ ap (λ (c : ℕ). done_on row needs does q (row_at p) (pool_at p) c) (sym rows) in
       let seen_now : (seat_of p1).seen ≡ seen ++ (others k.between ++ (1, q) ∷ []) = ap (λ (w : SeatNow B P Q). w.seen) t.1 in (
         t.0,
         record {
           between = k.between;
-          allowed = subst (λ (l : List Q). Each (may start) l) k.splits k.allowed;
+          allowed = subst (λ (l : List Q). Each (may start) 0 l) k.splits k.allowed;
+          also = subst (λ (l : List Q). AllBegin p.me.0.also l) k.splits k.also;
           now = t.1;
           place = at ∙ ap (λ (l : List Q). length l) k.splits;
           draws = ap draws_of seen_now ∙ draws_grow seen k.between q ∙ (λ i. draws_of seen ++ (sym (at ∙ ap (λ (l : List Q). length l) k.splits) i, q) ∷ []);
@@ -509,13 +511,14 @@ module _ {B P Q R : Type 0} (may : Contents B P → Q → Type 0) (row : Q → O
       (λ i. seen i ++ (others d.between ++ (1, q) ∷ [])) ∙ append_assoc old.seen (others l.between) (others d.between ++ (1, q) ∷ [])
       ∙ ap (λ (z : List (ℕ × Q)). old.seen ++ z) (sym (append_assoc (others l.between) (others d.between) ((1, q) ∷ []))) ∙ (λ i. old.seen ++ (sym (others_append l.between d.between) i ++ (1, q) ∷ [])) in
       let now : new ≡ record old { seen = old.seen ++ (others (l.between ++ d.between) ++ (1, q) ∷ []); row = row_then row needs does q old.row old.pool rows; pool = pool_then row needs does q old.row old.pool rows } =
-      d.now ∙ (λ i. record { id = (l.now i).id; start = (l.now i).start; parts = (l.now i).parts; seen = longer i; row = row_then row needs does q (row_same i) (pool_same i) rows; pool = pool_then row needs does q (row_same i) (pool_same i) rows; refusals = (l.now i).refusals }) in
+      d.now ∙ (λ i. record { id = (l.now i).id; start = (l.now i).start; parts = (l.now i).parts; seen = longer i; row = row_then row needs does q (row_same i) (pool_same i) rows; pool = pool_then row needs does q (row_same i) (pool_same i) rows; refusals = (l.now i).refusals; also = (l.now i).also }) in
       let place : at ≡ length (calls old.seen ++ (l.between ++ d.between)) = d.place ∙ ap (λ (z : List Q). length z) e in
       let does_it : done row needs does q (left_by row needs does start (calls old.seen ++ (l.between ++ d.between))) ≡ done_on row needs does q old.row old.pool rows =
       subst (λ (z : List Q). done row needs does q (left_by row needs does start z) ≡ done_on row needs does q mid.row mid.pool rows) e d.does_it ∙ (λ i. done_on row needs does q (row_same i) (pool_same i) rows) in
       record {
         between = l.between ++ d.between;
-        allowed = subst (λ (z : List Q). Each (may start) z) e d.allowed;
+        allowed = subst (λ (z : List Q). Each (may start) 0 z) e d.allowed;
+        also = over (λ (z : List Q) (a : List (List Q)). AllBegin a z) e (ap (λ (w : SeatNow B P Q). w.also) l.now) d.also;
         now = now;
         place = place;
         draws = ap (λ (w : SeatNow B P Q). draws_of w.seen) now ∙ draws_grow old.seen (l.between ++ d.between) q ∙ (λ i. draws_of old.seen ++ (sym place i, q) ∷ []);
@@ -541,16 +544,16 @@ module _ {B P : Type 0} where
   cells_long [] p = refl
   cells_long (x ∷ xs) p = ap suc (cells_long xs p)
 
-module _ {B P Q R : Type 0} (may : Contents B P → Q → Type 0) (row : Q → Option ℕ) (needs : Q → Option B → Bool) (does : Q → Option B → Option P → ℕ → Done B P R) where
+module _ {B P Q R : Type 0} (may : Contents B P → ℕ → Q → Type 0) (row : Q → Option ℕ) (needs : Q → Option B → Bool) (does : Q → Option B → Option P → ℕ → Done B P R) where
   pub opens_at : (rows : List B) (pool : P) (n : ℕ) (words : List ℕ) (slots : List (Slot B P)) → words ≡ replicate n 0 → n ≡ suc (suc (length rows)) * 8 → slots ≡ map Row rows ++ Pool pool ∷ []
-      → Rules may row needs does (contents rows pool 0) (opening words slots (knows all_parts (Some (contents rows pool 0)) [] [] []))
+      → Rules may row needs does (contents rows pool 0) (opening words slots (knows all_parts (Some (contents rows pool 0)) [] [] [] []))
   opens_at rows pool n words slots ew en es =
       let long : length words ≡ suc (suc (length rows)) * 8 = ap (λ (l : List ℕ). length l) ew ∙ length-replicate n 0 ∙ en in
-      subst (λ (z : List (Slot B P)). Rules may row needs does (contents rows pool 0) (opening words z (knows all_parts (Some (contents rows pool 0)) [] [] []))) (sym es)
+      subst (λ (z : List (Slot B P)). Rules may row needs does (contents rows pool 0) (opening words z (knows all_parts (Some (contents rows pool 0)) [] [] [] []))) (sym es)
       (opens (effect row needs does) cells count_of may all_parts (suc (length rows)) (contents rows pool 0) words long (λ i. ap (λ (l : List ℕ). slice_index l i) ew ∙ zero_at n i) (cells_long rows pool) refl)
 
   -- a new seat
-  pub first_seat : (id : TableId) (rows : List B) (pool : P) (p : Place B P Q) → p.table_id ≡ id → p.me ≡ (knows all_parts (Some (contents rows pool 0)) [] [] [], []) → Sits id (contents rows pool 0) p
+  pub first_seat : (id : TableId) (rows : List B) (pool : P) (p : Place B P Q) → p.table_id ≡ id → p.me ≡ (knows all_parts (Some (contents rows pool 0)) [] [] [] [], []) → Sits id (contents rows pool 0) p
   first_seat id rows pool p of me = record {
     of = of;
     start_is = ap (λ (m : Mine B P Q). m.0.start) me;

@@ -10,9 +10,9 @@ use lib.ListN.{get_elem?}
 use Rattle.atomic_table.specs.Table.{State, Me, Act, keeps, takes, gives, Allows, Splits, Joins, Valid, stepped, carried_after, put_back, opening}
 use Rattle.atomic_table.proofs.Lists.{at_set, set_here, set_else, at_longer, at_map}
 use Rattle.sw_rowlock.specs.declared.view.View.{View}
-use Rattle.sw_rowlock.specs.History.{below, calls, others, owns, Begins, times_drawn, merged, after}
+use Rattle.sw_rowlock.specs.History.{below, calls, others, owns, Begins, AllBegin, times_drawn, merged, after}
 use Rattle.sw_rowlock.specs.Rule.{word_at, total, In, Has, Places, Without, knows, nobody, refused, marks, parts_of, Manned, Fits, Free, Locked, TookOne, Takes, TakesBy, Looked, Looks, DrewOne, Draws, DrawsBy, Touched, Touches}
-use Rattle.sw_rowlock.proofs.Histories.{here, total_set, total_snoc, part_of, two_of, all_of, at_snoc, at_below, below_suc, below_one, mark_others, mark_more, mark_draw, begins_split, begins_more, begins_look, begins_draw, begins_others, begins_merged, mark_merged, all_owned, drop_all, each_more, after_snoc, same_eqb, else_eqb}
+use Rattle.sw_rowlock.proofs.Histories.{here, total_set, total_snoc, part_of, two_of, all_of, at_snoc, at_below, below_suc, below_one, mark_others, mark_more, mark_draw, begins_split, begins_more, begins_look, begins_draw, begins_others, begins_merged, mark_merged, all_owned, drop_all, each_all, all_more, all_join, after_snoc, same_eqb, else_eqb}
 
 -- the words of two locks are two words
 word_other : (i j : ℕ) → i ≢ j → word_at i ≢ word_at j
@@ -40,21 +40,22 @@ module _ {S Q T : Type 0} where
       (w, subst (λ (z : ℕ). get_elem? (set views id w) z ≡ some w) (sym e) (set_here views id w (at_below views id v at)), some_part (subst (λ (u : View S Q T). 0 < u.parts) same m.2), keep (subst (λ (u : View S Q T). Has j u.held) same m.3)))
       (λ ne. (m.0, set_else views id k w ne ∙ m.1, m.2, m.3))
 
-module _ {S Q T : Type 0} (effect : Q → T → T) (cells : T → List S) (count : T → ℕ) (may : T → Q → Type 0) where
+module _ {S Q T : Type 0} (effect : Q → T → T) (cells : T → List S) (count : T → ℕ) (may : T → ℕ → Q → Type 0) where
   -- the seat id knows w, and the history is the same
   pub same_log : (all more locks : ℕ) (start : T) (s : State S (View S Q T)) (h : Locked effect cells count may all locks start s) (id : ℕ) (v w : View S Q T) (words : List ℕ) (owner : ℕ → ℕ)
       (state : State S (View S Q T)) → state.words ≡ words → state.views ≡ set s.views id w
       → get_elem? s.views id ≡ some v
       → length words ≡ suc locks * 8 → length state.homes ≡ locks → slice_index words (word_at locks) ≡ slice_index s.words (word_at locks)
-      → more + v.parts ≡ all + w.parts → w.start ≡ v.start → Begins w.seen h.log → ((p : ℕ) → times_drawn p w.seen ≡ times_drawn p v.seen) → (w.parts ≡ 0 → v.parts ≡ 0)
+      → more + v.parts ≡ all + w.parts → w.start ≡ v.start → Begins w.seen h.log → AllBegin w.also h.log → ((p : ℕ) → times_drawn p w.seen ≡ times_drawn p v.seen) → (w.parts ≡ 0 → v.parts ≡ 0)
       → ((i : ℕ) → i < locks → owner i ≡ 0 → Free effect cells count may words state.homes h.log start i)
       → ((i k : ℕ) → i < locks → owner i ≡ suc k → (slice_index words (word_at i) ≡ 1) × Manned (set s.views id w) i k)
       → ((i : ℕ) (x : S) → In (i, x) w.held → (owner i ≡ suc id) × (get_elem? (cells (after effect start h.log)) i ≡ some x))
       → ((i k : ℕ) → k ≢ id → h.owner i ≡ suc k → owner i ≡ suc k)
       → Locked effect cells count may more locks start state
-  same_log all more locks start s h id v w words owner state is_words is_views at wide long seq wp ws wb wm wi free taken holds other =
+  same_log all more locks start s h id v w words owner state is_words is_views at wide long seq wp ws wb wa wm wi free taken holds other =
       let mine : Fits effect cells count may h.log start owner id w = record {
         begins = wb;
+        also = wa;
         from = λ t q. (h.fits id v at).from t (sym ws ∙ q);
         holds = holds;
         idle = λ z p. wm p ∙ (h.fits id v at).idle (wi z) p;
@@ -72,6 +73,7 @@ module _ {S Q T : Type 0} (effect : Q → T → T) (cells : T → List S) (count
             (λ (t : (k ≡ id) × (w ≡ u)). subst (λ (y : View S Q T). Fits effect cells count may h.log start owner k y) t.1 (subst (λ (n : ℕ). Fits effect cells count may h.log start owner n w) (sym t.0) mine))
             (λ (t : (k ≢ id) × (get_elem? s.views k ≡ some u)). let f = h.fits k u t.1 in record {
               begins = f.begins;
+              also = f.also;
               from = f.from;
               holds = λ j x m. (other j k t.0 (f.holds j x m).0, (f.holds j x m).1);
               idle = f.idle;
@@ -90,7 +92,7 @@ module _ {S Q T : Type 0} (effect : Q → T → T) (cells : T → List S) (count
       let v = me.0 in
       let w : View S Q T = (refused lock found me).0 in
       same_log all all locks start s h id v w s.words h.owner (stepped s i (slice_index s.words i) id me.1 w keeps) (set-get_or s.words i 0) refl at h.wide h.long refl refl refl
-      (h.fits id v at).begins (λ p. refl) (λ z. z) h.free
+      (h.fits id v at).begins (h.fits id v at).also (λ p. refl) (λ z. z) h.free
       (λ j k lt e. let g = h.taken j k lt e in (g.0, manned_set s.views id v w at (λ q. q) j k (λ z. z) g.1))
       (h.fits id v at).holds (λ j k ne e. e)
 
@@ -133,13 +135,13 @@ module _ {S Q T : Type 0} (effect : Q → T → T) (cells : T → List S) (count
       took : r ≡ 0 → h.owner i ≡ 0 → (w : View S Q T) × (a : Act S) × Valid s.homes me.1 a × Locked effect cells count may all locks start (stepped s (word_at i) 1 id me.1 w a) × TakesBy effect cells count may all i place me true r (w, carried_after me.1 a)
       took free_word own =
           let f = h.free i near own in
-          let w : View S Q T = knows v.parts v.start v.seen (place f.value v.held) v.refusals in
+          let w : View S Q T = knows v.parts v.start v.seen (place f.value v.held) v.refusals v.also in
           let owner : ℕ → ℕ = λ j. cond (eqb j i) (suc id) (h.owner j) in (
             w,
             takes i f.value,
             f.home,
             same_log all all locks start s h id v w (set s.words (word_at i) 1) owner (stepped s (word_at i) 1 id me.1 w (takes i f.value)) refl refl at (length-set s.words (word_at i) 1 ∙ h.wide) (length-set s.homes i none ∙ h.long)
-                (get_or-set_other s.words (word_at i) (word_at locks) 1 0 (λ e. word_below i locks near (sym e))) refl refl (h.fits id v at).begins (λ p. refl) (λ z. z)
+                (get_or-set_other s.words (word_at i) (word_at locks) 1 0 (λ e. word_below i locks near (sym e))) refl refl (h.fits id v at).begins (h.fits id v at).also (λ p. refl) (λ z. z)
                 (λ j lt e. dite (ℕ_discrete j i) (λ same. absurd (zero_not_suc (owner j) id e (same_eqb j i (suc id) (h.owner j) same)))
                 (λ ne. let g = h.free j lt (sym (else_eqb j i (suc id) (h.owner j) ne) ∙ e) in record { word = get_or-set_other s.words (word_at i) (word_at j) 1 0 (word_other j i ne) ∙ g.word; value = g.value; home = set_else s.homes i j none ne ∙ g.home; fresh = g.fresh }))
                 (λ j k lt e. dite (ℕ_discrete j i)
@@ -160,6 +162,7 @@ module _ {S Q T : Type 0} (effect : Q → T → T) (cells : T → List S) (count
                 so_far = h.log;
                 allowed = h.allowed;
                 begins = (h.fits id v at).begins;
+                also = (h.fits id v at).also;
                 left = f.fresh;
                 now = refl;
                 whole = λ q. settled all locks start s h id v at q;
@@ -181,10 +184,10 @@ module _ {S Q T : Type 0} (effect : Q → T → T) (cells : T → List S) (count
           found_one e (suc k) own = (h.taken i k near own).0
 
   pub gives_lock : (all locks : ℕ) (start : T) (slots id i : ℕ) (v : View S Q T) (c c' : List (ℕ × S)) (x : S) (left : List (ℕ × S)) (then : Me S (View S Q T) → Type 0) → i < locks → 0 < v.parts
-      → c ≡ (i, x) ∷ c' → In (i, x) v.held → Without i v.held left → then (knows v.parts v.start v.seen left v.refusals, c')
+      → c ≡ (i, x) ∷ c' → In (i, x) v.held → Without i v.held left → then (knows v.parts v.start v.seen left v.refusals v.also, c')
       → Allows (Locked effect cells count may all locks start) slots id (v, c) (word_at i) (λ _. 0) (λ _ n. then n)
   gives_lock all locks start slots id i v c c' x left then near some_part carried has out told s h _ at _ =
-      let w : View S Q T = knows v.parts v.start v.seen left v.refusals in
+      let w : View S Q T = knows v.parts v.start v.seen left v.refusals v.also in
       let owner : ℕ → ℕ = λ j. cond (eqb j i) 0 (h.owner j) in
       let homes : put_back s.homes c ≡ set s.homes i (some x) = ap (λ (l : List (ℕ × S)). put_back s.homes l) carried in
       let is = (h.fits id v at).holds i x has in
@@ -193,7 +196,7 @@ module _ {S Q T : Type 0} (effect : Q → T → T) (cells : T → List S) (count
         gives,
         tt,
         same_log all all locks start s h id v w (set s.words (word_at i) 0) owner (stepped s (word_at i) 0 id c w gives) refl refl at (length-set s.words (word_at i) 0 ∙ h.wide) (ap (λ (l : List _). length l) homes ∙ length-set s.homes i (some x) ∙ h.long)
-            (get_or-set_other s.words (word_at i) (word_at locks) 0 0 (λ e. word_below i locks near (sym e))) refl refl (h.fits id v at).begins (λ p. refl) (λ z. z)
+            (get_or-set_other s.words (word_at i) (word_at locks) 0 0 (λ e. word_below i locks near (sym e))) refl refl (h.fits id v at).begins (h.fits id v at).also (λ p. refl) (λ z. z)
             (λ j lt e. subst (λ (hs : List _). Free effect cells count may (set s.words (word_at i) 0) hs h.log start j) (sym homes) (dite (ℕ_discrete j i)
             (λ same. record {
               word = ap (λ (z : ℕ). slice_index (set s.words (word_at i) 0) (word_at z)) same ∙ get_or-set_same s.words (word_at i) 0 0 (let q = h.wide in omega (arith, q, near));
@@ -214,13 +217,13 @@ module _ {S Q T : Type 0} (effect : Q → T → T) (cells : T → List S) (count
   looks all locks start slots id me some_part s h _ at _ =
       let v = me.0 in
       let b : List Q = drop (length v.seen) h.log in
-      let w : View S Q T = knows v.parts v.start (v.seen ++ others b) v.held v.refusals in
+      let w : View S Q T = knows v.parts v.start (v.seen ++ others b) v.held v.refusals v.also in
       let r = slice_index s.words (word_at locks) in (
         w,
         keeps,
         tt,
         same_log all all locks start s h id v w s.words h.owner (stepped s (word_at locks) r id me.1 w keeps) (set-get_or s.words (word_at locks) 0) refl at h.wide h.long refl refl refl
-            (begins_look v.seen h.log (h.fits id v at).begins) (λ p. mark_more p v.seen b) (λ z. z) h.free
+            (begins_look v.seen h.log (h.fits id v at).begins) (h.fits id v at).also (λ p. mark_more p v.seen b) (λ z. z) h.free
             (λ j k lt e. let g = h.taken j k lt e in (g.0, manned_set s.views id v w at (λ q. q) j k (λ z. z) g.1))
             (h.fits id v at).holds (λ j k ne e. e),
         λ t is. let same : start ≡ t = sym ((h.fits id v at).from t is) in (subst (λ (z : T). Looked effect cells count may all z me r (w, me.1)) same record {
@@ -228,13 +231,14 @@ module _ {S Q T : Type 0} (effect : Q → T → T) (cells : T → List S) (count
           so_far = h.log;
           allowed = h.allowed;
           splits = begins_split v.seen h.log (h.fits id v at).begins;
+          also = (h.fits id v at).also;
           number = h.sequence;
           now = refl;
           whole = λ q. settled all locks start s h id v at q;
         }),
       )
 
-  pub draws_call : (all locks : ℕ) (start : T) (slots id old new : ℕ) (q : Q) (left : List (ℕ × S)) (me : Me S (View S Q T)) → 0 < me.0.parts → may start q → Touches effect cells count start q me.0.held left old new
+  pub draws_call : (all locks : ℕ) (start : T) (slots id old new : ℕ) (q : Q) (left : List (ℕ × S)) (me : Me S (View S Q T)) → 0 < me.0.parts → ((qs : List Q) → old ≡ length qs * 2097152 + count (after effect start qs) → may start (length qs) q) → Touches effect cells count start q me.0.held left old new
       → Allows (Locked effect cells count may all locks start) slots id me (word_at locks) (λ n. either (eqb n old) new n) (Draws effect cells count may all locks q left old me)
   draws_call all locks start slots id old new q left me some_part fit tch s h _ at _ = go (eqb (slice_index s.words (word_at locks)) old) refl
     where
@@ -254,7 +258,7 @@ module _ {S Q T : Type 0} (effect : Q → T → T) (cells : T → List S) (count
       t = after effect start h.log
 
       w : View S Q T
-      w = knows v.parts v.start (v.seen ++ (others b ++ (1, q) ∷ [])) left v.refusals
+      w = knows v.parts v.start (v.seen ++ (others b ++ (1, q) ∷ [])) left v.refusals v.also
 
       split : h.log ≡ calls v.seen ++ b
       split = begins_split v.seen h.log (h.fits id v at).begins
@@ -278,15 +282,15 @@ module _ {S Q T : Type 0} (effect : Q → T → T) (cells : T → List S) (count
           let g : below p (length log) ≡ below p (length h.log) + here p (length h.log) = ap (λ (n : ℕ). below p n) longer ∙ below_suc p (length h.log) in
           omega (arith, e, o, m, g)
 
-      drew : r ≡ old → Touched effect cells count q v.held left t → new ≡ suc (length h.log) * 2097152 + count (effect q t)
+      drew : r ≡ old → may start (length h.log) q → Touched effect cells count q v.held left t → new ≡ suc (length h.log) * 2097152 + count (effect q t)
           → (u : View S Q T) × (a : Act S) × Valid s.homes me.1 a × Locked effect cells count may all locks start (stepped s (word_at locks) new id me.1 u a) × DrawsBy effect cells count may all locks q left old me true r (u, carried_after me.1 a)
-      drew same touched number = (
+      drew same fits_here touched number = (
         w,
         keeps,
         tt,
         record {
           log = log;
-          allowed = each_more (may start) h.log q h.allowed fit;
+          allowed = each_all (may start) h.log q h.allowed fits_here;
           owner = h.owner;
           wide = length-set s.words (word_at locks) new ∙ h.wide;
           long = h.long;
@@ -301,12 +305,14 @@ module _ {S Q T : Type 0} (effect : Q → T → T) (cells : T → List S) (count
           fits = λ k u e. ⊎_elim
               (λ (z : (k ≡ id) × (w ≡ u)). subst (λ (y : View S Q T). Fits effect cells count may log start h.owner k y) z.1 (subst (λ (n : ℕ). Fits effect cells count may log start h.owner n w) (sym z.0) record {
                 begins = begins_draw v.seen h.log q (h.fits id v at).begins;
+                also = all_more v.also h.log q (h.fits id v at).also;
                 from = (h.fits id v at).from;
                 holds = λ j x m. let g = touched.value j x m in (mine j g.1, cell_is j ∙ g.0);
                 idle = λ none_left p. absurd (omega (arith, none_left, some_part));
               }))
               (λ (z : (k ≢ id) × (get_elem? s.views k ≡ some u)). let f = h.fits k u z.1 in record {
                 begins = begins_more u.seen h.log q f.begins;
+                also = all_more u.also h.log q f.also;
                 from = f.from;
                 holds = λ j x m. let g = f.holds j x m in (g.0, cell_is j ∙ touched.else_same j (λ o. z.0 (suc_same k id (sym g.0 ∙ mine j o))) ∙ g.1);
                 idle = f.idle;
@@ -320,6 +326,7 @@ module _ {S Q T : Type 0} (effect : Q → T → T) (cells : T → List S) (count
           so_far = h.log;
           allowed = h.allowed;
           splits = split;
+          also = (h.fits id v at).also;
           number = sym same ∙ h.sequence;
           held = λ i x m. ((h.fits id v at).holds i x m).1;
           now = refl;
@@ -331,18 +338,18 @@ module _ {S Q T : Type 0} (effect : Q → T → T) (cells : T → List S) (count
       go : (b : Bool) → eqb r old ≡ b → (u : View S Q T) × (a : Act S) × Valid s.homes me.1 a × Locked effect cells count may all locks start (stepped s (word_at locks) (either b new r) id me.1 u a) × DrawsBy effect cells count may all locks q left old me b r (u, carried_after me.1 a)
       go true e =
           let same = eqb-true r old e in
-          let g = tch h.log (sym same ∙ h.sequence) (λ i x m. ((h.fits id v at).holds i x m).1) in drew same g.0 g.1
+          let g = tch h.log (sym same ∙ h.sequence) (λ i x m. ((h.fits id v at).holds i x m).1) in drew same (fit h.log (sym same ∙ h.sequence)) g.0 g.1
       go false e = ((refused locks r me).0, keeps, tt, fails all locks start s h id (word_at locks) locks r me at, λ z is. refl)
 
   pub splits_seat : (all locks : ℕ) (start : T) (id k : ℕ) (v : View S Q T) → k ≤ v.parts → (0 < v.parts → k < v.parts)
-      → Splits (Locked effect cells count may all locks start) id v (knows (v.parts - k) v.start v.seen v.held v.refusals) (knows k v.start (others (calls v.seen)) [] [])
+      → Splits (Locked effect cells count may all locks start) id v (knows (v.parts - k) v.start v.seen v.held v.refusals v.also) (knows k v.start (others (calls v.seen)) [] [] v.also)
   splits_seat all locks start id k v few some_left s h at =
-      let l : View S Q T = knows (v.parts - k) v.start v.seen v.held v.refusals in
-      let r : View S Q T = knows k v.start (others (calls v.seen)) [] [] in
+      let l : View S Q T = knows (v.parts - k) v.start v.seen v.held v.refusals v.also in
+      let r : View S Q T = knows k v.start (others (calls v.seen)) [] [] v.also in
       let keeps_part : 0 < v.parts → 0 < l.parts = λ p. let lt = some_left p in omega (arith, lt) in
       let g : Locked effect cells count may (all - k) locks start record { words = s.words; homes = s.homes; views = set s.views id l } =
       same_log all (all - k) locks start s h id v l s.words h.owner record { words = s.words; homes = s.homes; views = set s.views id l } refl refl at h.wide h.long refl
-      (let p = part_of parts_of s.views id v at in let w = h.whole in omega (arith, few, p, w)) refl (h.fits id v at).begins (λ p. refl)
+      (let p = part_of parts_of s.views id v at in let w = h.whole in omega (arith, few, p, w)) refl (h.fits id v at).begins (h.fits id v at).also (λ p. refl)
       (λ z. dite (ℕ_discrete v.parts 0) (λ e. e) (λ ne. let lt = some_left (omega (arith, ne)) in absurd (omega (arith, z, lt)))) h.free
       (λ j n lt e. let t = h.taken j n lt e in (t.0, manned_set s.views id v l at keeps_part j n (λ z. z) t.1))
       (h.fits id v at).holds (λ j n ne e. e) in
@@ -358,6 +365,7 @@ module _ {S Q T : Type 0} (effect : Q → T → T) (cells : T → List S) (count
         fits = λ n u e. ⊎_elim (λ (t : get_elem? (set s.views id l) n ≡ some u). g.fits n u t)
             (λ (t : (n ≡ length (set s.views id l)) × (r ≡ u)). subst (λ (y : View S Q T). Fits effect cells count may g.log start g.owner n y) t.1 record {
               begins = begins_others v.seen g.log (g.fits id l (set_here s.views id l (at_below s.views id v at))).begins;
+              also = (g.fits id l (set_here s.views id l (at_below s.views id v at))).also;
               from = (h.fits id v at).from;
               holds = λ j x m. absurd m;
               idle = λ z p. mark_others p (calls v.seen);
@@ -368,9 +376,9 @@ module _ {S Q T : Type 0} (effect : Q → T → T) (cells : T → List S) (count
       }
 
   pub joins_seats : (all locks : ℕ) (start : T) (id : ℕ) (v : View S Q T) (other : ℕ) (w : View S Q T) → w.held ≡ []
-      → Joins (Locked effect cells count may all locks start) id v other w (knows (v.parts + w.parts) v.start (merged v.seen w.seen) v.held (v.refusals ++ w.refusals)) nobody
+      → Joins (Locked effect cells count may all locks start) id v other w (knows (v.parts + w.parts) v.start (merged v.seen w.seen) v.held (v.refusals ++ w.refusals) (v.also ++ (w.also ++ calls w.seen ∷ []))) nobody
   joins_seats all locks start id v other w empty s h at two at' =
-      let both : View S Q T = knows (v.parts + w.parts) v.start (merged v.seen w.seen) v.held (v.refusals ++ w.refusals) in
+      let both : View S Q T = knows (v.parts + w.parts) v.start (merged v.seen w.seen) v.held (v.refusals ++ w.refusals) (v.also ++ (w.also ++ calls w.seen ∷ [])) in
       let vs = set s.views id both in let end = set vs other nobody in
       let was : get_elem? s.views other ≡ some w = ⊎_elim (λ (t : (other ≡ id) × (both ≡ w)). absurd (two t.0)) (λ (t : (other ≢ id) × (get_elem? s.views other ≡ some w)). t.1) (at_set s.views id other both w at') in
       let mark : (p : ℕ) → times_drawn p both.seen ≡ times_drawn p v.seen + times_drawn p w.seen = λ p. mark_merged p v.seen w.seen in
@@ -394,6 +402,7 @@ module _ {S Q T : Type 0} (effect : Q → T → T) (cells : T → List S) (count
         fits = λ k u e. ⊎_elim
             (λ (t : (k ≡ other) × (nobody ≡ u)). subst (λ (y : View S Q T). Fits effect cells count may h.log start h.owner k y) t.1 record {
               begins = tt;
+              also = tt;
               from = λ z is. absurd (none_is_some z is);
               holds = λ j x m. absurd m;
               idle = λ z p. refl;
@@ -401,6 +410,7 @@ module _ {S Q T : Type 0} (effect : Q → T → T) (cells : T → List S) (count
             (λ (t : (k ≢ other) × (get_elem? vs k ≡ some u)). ⊎_elim
             (λ (o : (k ≡ id) × (both ≡ u)). subst (λ (y : View S Q T). Fits effect cells count may h.log start h.owner k y) o.1 (subst (λ (n : ℕ). Fits effect cells count may h.log start h.owner n both) (sym o.0) record {
               begins = begins_merged v.seen w.seen h.log (h.fits id v at).begins (h.fits other w was).begins;
+              also = all_join v.also w.also (calls w.seen) h.log (h.fits id v at).also (h.fits other w was).also (begins_others w.seen h.log (h.fits other w was).begins);
               from = (h.fits id v at).from;
               holds = (h.fits id v at).holds;
               idle = λ z p. let m = mark p in let a = (h.fits id v at).idle (omega (arith, z)) p in let b = (h.fits other w was).idle (omega (arith, z)) p in omega (arith, m, a, b);
@@ -420,9 +430,9 @@ module _ {S Q T : Type 0} (effect : Q → T → T) (cells : T → List S) (count
           is_there (Some y) = true
 
   pub opens : (all locks : ℕ) (start : T) (words : List ℕ) → length words ≡ suc locks * 8 → ((i : ℕ) → slice_index words i ≡ 0) → length (cells start) ≡ locks → count start ≡ 0
-      → Locked effect cells count may all locks start (opening words (cells start) (knows all (Some start) [] [] []))
+      → Locked effect cells count may all locks start (opening words (cells start) (knows all (Some start) [] [] [] []))
   opens all locks start words wide zeros long none_yet =
-      let v : View S Q T = knows all (Some start) [] [] [] in
+      let v : View S Q T = knows all (Some start) [] [] [] [] in
       record {
         log = [];
         allowed = tt;
@@ -435,6 +445,7 @@ module _ {S Q T : Type 0} (effect : Q → T → T) (cells : T → List S) (count
         fits = λ j u e. ⊎_elim (λ (t : get_elem? [] j ≡ some u). absurd (some-ne-none u (sym t)))
             (λ (t : (j ≡ 0) × (v ≡ u)). subst (λ (y : View S Q T). Fits effect cells count may [] start (λ _. 0) j y) t.1 record {
               begins = tt;
+              also = tt;
               from = λ z is. ap (λ (o : Option T). unwrap_or o z) (sym is);
               holds = λ i x m. absurd m;
               idle = λ z p. refl;

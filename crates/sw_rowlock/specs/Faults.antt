@@ -8,7 +8,7 @@ use Rattle.sw_rowlock.specs.Calls.{Done}
 use Rattle.sw_rowlock.specs.Seats.{SeatNow, sequence_number}
 use Rattle.sw_rowlock.specs.Told.{LookedAt}
 
-module _ {B P Q R : Type 0} (may : Contents B P → Q → Type 0) (row_of : Q → Option ℕ) (needs : Q → Option B → Bool) (does : Q → Option B → Option P → ℕ → Done B P R) where
+module _ {B P Q R : Type 0} (may : Contents B P → ℕ → Q → Type 0) (row_of : Q → Option ℕ) (needs : Q → Option B → Bool) (does : Q → Option B → Option P → ℕ → Done B P R) where
   -- the history that was seen has n calls, which is last_call or more
   pub record SpentAt (start : Contents B P) (old new : SeatNow B P Q) (last_call n : ℕ) : Type 0 where
     pub loaded : ℕ

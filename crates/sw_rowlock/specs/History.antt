@@ -29,10 +29,15 @@ module _ {Q : Type 0} where
   Begins (x ∷ xs) [] = ⊥
   Begins (x ∷ xs) (q ∷ qs) = (x.1 ≡ q) × Begins xs qs
 
-  -- each of the calls is such
-  abbrev pub Each : (Q → Type 0) → List Q → Type 0
-  Each P [] = Unit {0}
-  Each P (q ∷ qs) = P q × Each P qs
+  -- the history begins with each of these lists of calls
+  abbrev pub AllBegin : List (List Q) → List Q → Type 0
+  AllBegin [] history = Unit {0}
+  AllBegin (xs ∷ xss) history = Begins (others xs) history × AllBegin xss history
+
+  -- each of the calls is such, with its place; the first has place n
+  abbrev pub Each : (ℕ → Q → Type 0) → ℕ → List Q → Type 0
+  Each P n [] = Unit {0}
+  Each P n (q ∷ qs) = P n q × Each P (suc n) qs
 
   -- how often the seat drew the place p
   abbrev pub times_drawn : ℕ → List (ℕ × Q) → ℕ

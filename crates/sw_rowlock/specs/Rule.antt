@@ -5,7 +5,7 @@ use mathlib.Core.Option as M
 use lib.ListN.{get_elem?}
 use Rattle.atomic_table.specs.Table.{State, Me}
 use Rattle.sw_rowlock.specs.declared.view.View.{View}
-use Rattle.sw_rowlock.specs.History.{below, calls, others, owns, Begins, Each, times_drawn, after}
+use Rattle.sw_rowlock.specs.History.{below, calls, others, owns, Begins, AllBegin, Each, times_drawn, after}
 
 -- the word of a lock: each lies on a cache line of its own
 abbrev pub word_at : ℕ → ℕ
@@ -38,16 +38,16 @@ module _ {S : Type 0} where
     pub keeps : (j : ℕ) → Has j held → j ≢ i → Has j left
 
 module _ {S Q T : Type 0} where
-  abbrev pub knows : ℕ → Option T → List (ℕ × Q) → List (ℕ × S) → List (ℕ × ℕ) → View S Q T
-  knows parts start seen held refusals = record { parts = parts; start = start; seen = seen; held = held; refusals = refusals }
+  abbrev pub knows : ℕ → Option T → List (ℕ × Q) → List (ℕ × S) → List (ℕ × ℕ) → List (List Q) → View S Q T
+  knows parts start seen held refusals also = record { parts = parts; start = start; seen = seen; held = held; refusals = refusals; also = also }
 
   -- what a seat that was joined to another leaves
   abbrev pub nobody : View S Q T
-  nobody = knows 0 None [] [] []
+  nobody = knows 0 None [] [] [] []
 
   -- the exchange on this lock's word found another content
   abbrev pub refused : ℕ → ℕ → Me S (View S Q T) → Me S (View S Q T)
-  refused lock found m = (knows m.0.parts m.0.start m.0.seen m.0.held ((lock, found) ∷ m.0.refusals), m.1)
+  refused lock found m = (knows m.0.parts m.0.start m.0.seen m.0.held ((lock, found) ∷ m.0.refusals) m.0.also, m.1)
 
   abbrev pub marks : ℕ → View S Q T → ℕ
   marks p v = times_drawn p v.seen
@@ -59,11 +59,12 @@ module _ {S Q T : Type 0} where
   abbrev pub Manned : List (View S Q T) → ℕ → ℕ → Type 0
   Manned views i id = (u : View S Q T) × (get_elem? views id ≡ some u) × (0 < u.parts) × Has i u.held
 
--- A call changes a state. A state has a value for each lock, and a count. Some calls may be drawn where locks started with a state.
-module _ {S Q T : Type 0} (effect : Q → T → T) (cells : T → List S) (count : T → ℕ) (may : T → Q → Type 0) where
+-- A call changes a state. A state has a value for each lock, and a count. Which calls may have which places, the state tells that the locks started with.
+module _ {S Q T : Type 0} (effect : Q → T → T) (cells : T → List S) (count : T → ℕ) (may : T → ℕ → Q → Type 0) where
   -- owner i is 0 where the lock is free, and one more than the number of the seat that holds it
   pub record Fits (log : List Q) (start : T) (owner : ℕ → ℕ) (id : ℕ) (v : View S Q T) : Type 0 where
     pub begins : Begins v.seen log
+    pub also : AllBegin v.also log
     pub from : (t : T) → v.start ≡ Some t → t ≡ start
     pub holds : (i : ℕ) (x : S) → In (i, x) v.held → (owner i ≡ suc id) × (get_elem? (cells (after effect start log)) i ≡ some x)
     pub idle : v.parts ≡ 0 → (p : ℕ) → times_drawn p v.seen ≡ 0
@@ -78,7 +79,7 @@ module _ {S Q T : Type 0} (effect : Q → T → T) (cells : T → List S) (count
   -- There is one history. Each lock is free or held by one seat, the sequence word has the history's length and count, and each place was drawn once
   pub record Locked (all locks : ℕ) (start : T) (s : State S (View S Q T)) : Type 0 where
     pub log : List Q
-    pub allowed : Each (may start) log
+    pub allowed : Each (may start) 0 log
     pub owner : ℕ → ℕ
     pub wide : length s.words ≡ suc locks * 8
     pub long : length s.homes ≡ locks
@@ -93,10 +94,11 @@ module _ {S Q T : Type 0} (effect : Q → T → T) (cells : T → List S) (count
   pub record TookOne (all i : ℕ) (place : S → List (ℕ × S) → List (ℕ × S)) (start : T) (m n : Me S (View S Q T)) : Type 0 where
     pub value : S
     pub so_far : List Q
-    pub allowed : Each (may start) so_far
+    pub allowed : Each (may start) 0 so_far
     pub begins : Begins m.0.seen so_far
+    pub also : AllBegin m.0.also so_far
     pub left : get_elem? (cells (after effect start so_far)) i ≡ some value
-    pub now : n ≡ (knows m.0.parts m.0.start m.0.seen (place value m.0.held) m.0.refusals, (i, value) ∷ m.1)
+    pub now : n ≡ (knows m.0.parts m.0.start m.0.seen (place value m.0.held) m.0.refusals m.0.also, (i, value) ∷ m.1)
     pub whole : m.0.parts ≡ all → (calls m.0.seen ≡ so_far) × (m.0.seen ≡ owns (calls m.0.seen))
 
   abbrev pub TakesBy : (all i : ℕ) → (S → List (ℕ × S) → List (ℕ × S)) → Me S (View S Q T) → Bool → ℕ → Me S (View S Q T) → Type 0
@@ -111,10 +113,11 @@ module _ {S Q T : Type 0} (effect : Q → T → T) (cells : T → List S) (count
   pub record Looked (all : ℕ) (start : T) (m : Me S (View S Q T)) (r : ℕ) (n : Me S (View S Q T)) : Type 0 where
     pub between : List Q
     pub so_far : List Q
-    pub allowed : Each (may start) so_far
+    pub allowed : Each (may start) 0 so_far
     pub splits : so_far ≡ calls m.0.seen ++ between
+    pub also : AllBegin m.0.also so_far
     pub number : r ≡ length so_far * 2097152 + count (after effect start so_far)
-    pub now : n ≡ (knows m.0.parts m.0.start (m.0.seen ++ others between) m.0.held m.0.refusals, m.1)
+    pub now : n ≡ (knows m.0.parts m.0.start (m.0.seen ++ others between) m.0.held m.0.refusals m.0.also, m.1)
     pub whole : m.0.parts ≡ all → (calls m.0.seen ≡ so_far) × (m.0.seen ≡ owns (calls m.0.seen))
 
   abbrev pub Looks : ℕ → Me S (View S Q T) → ℕ → Me S (View S Q T) → Type 0
@@ -124,11 +127,12 @@ module _ {S Q T : Type 0} (effect : Q → T → T) (cells : T → List S) (count
   pub record DrewOne (all : ℕ) (q : Q) (left : List (ℕ × S)) (old : ℕ) (start : T) (m n : Me S (View S Q T)) : Type 0 where
     pub between : List Q
     pub so_far : List Q
-    pub allowed : Each (may start) so_far
+    pub allowed : Each (may start) 0 so_far
     pub splits : so_far ≡ calls m.0.seen ++ between
+    pub also : AllBegin m.0.also so_far
     pub number : old ≡ length so_far * 2097152 + count (after effect start so_far)
     pub held : (i : ℕ) (x : S) → In (i, x) m.0.held → get_elem? (cells (after effect start so_far)) i ≡ some x
-    pub now : n ≡ (knows m.0.parts m.0.start (m.0.seen ++ (others between ++ (1, q) ∷ [])) left m.0.refusals, m.1)
+    pub now : n ≡ (knows m.0.parts m.0.start (m.0.seen ++ (others between ++ (1, q) ∷ [])) left m.0.refusals m.0.also, m.1)
     pub once : (p : ℕ) → times_drawn p (m.0.seen ++ (others between ++ (1, q) ∷ [])) ≤ 1
     pub whole : m.0.parts ≡ all → (calls m.0.seen ≡ so_far) × (m.0.seen ≡ owns (calls m.0.seen)) × (between ≡ [])
 

@@ -19,7 +19,7 @@ pub record LocksNow (B P : Type 0) : Type 0 where
   pub start : Contents B P
 
 -- Which locks the seat is of and what they started with, its parts, the history that it has seen with its own draws marked, the row and the pool that it holds, each as it has to be given back, and
--- what its refused exchanges found, the last one first: the number of the lock and the content of its word
+-- what its refused exchanges found, the last one first: the number of the lock and the content of its word; and the histories that the seats had seen which were joined into it
 pub record SeatNow (B P Q : Type 0) : Type 0 where
   pub id : TableId
   pub start : Option (Contents B P)
@@ -28,6 +28,7 @@ pub record SeatNow (B P Q : Type 0) : Type 0 where
   pub row : Option (ℕ × B)
   pub pool : Option P
   pub refusals : List (ℕ × ℕ)
+  pub also : List (List Q)
 
 module _ {B P Q : Type 0} where
   -- a seat of these locks
@@ -35,8 +36,8 @@ module _ {B P Q : Type 0} where
   IsSeatOf locks seat = (seat.id ≡ locks.id) × (seat.start ≡ Some locks.start)
 
   -- a seat of these locks that holds nothing and made no draw
-  abbrev pub new_seat : LocksNow B P → ℕ → List (ℕ × Q) → SeatNow B P Q
-  new_seat locks parts seen = record { id = locks.id; start = Some locks.start; parts = parts; seen = seen; row = None; pool = None; refusals = [] }
+  abbrev pub new_seat : LocksNow B P → ℕ → List (ℕ × Q) → List (List Q) → SeatNow B P Q
+  new_seat locks parts seen also = record { id = locks.id; start = Some locks.start; parts = parts; seen = seen; row = None; pool = None; refusals = []; also = also }
 
 module _ {B P : Type 0} where
   -- the locks are numbered: a row by its own number, then the pool, then the sequence word
@@ -156,7 +157,7 @@ module _ {B P Q R : Type 0} (row_of : Q → Option ℕ) (needs : Q → Option B 
 module _ {B P Q : Type 0} where
   -- what contracts see of the base crate's seat
   abbrev pub seat_of : Seat (Slot B P) (View (Slot B P) Q (Contents B P)) → SeatNow B P Q
-  seat_of p = record { id = p.table_id; start = p.me.0.start; parts = p.me.0.parts; seen = p.me.0.seen; row = row_in p.me.0.held; pool = pool_in p.me.0.held; refusals = p.me.0.refusals }
+  seat_of p = record { id = p.table_id; start = p.me.0.start; parts = p.me.0.parts; seen = p.me.0.seen; row = row_in p.me.0.held; pool = pool_in p.me.0.held; refusals = p.me.0.refusals; also = p.me.0.also }
 
   -- it has the slots of what it holds, and they are empty
   pub record Carries (start : Contents B P) (p : Seat (Slot B P) (View (Slot B P) Q (Contents B P))) : Type 0 where

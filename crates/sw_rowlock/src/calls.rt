@@ -28,7 +28,7 @@ pub enum Slot<B, P> {
 
 /// Says what calls do, on rows of type `B` and a pool of type `P`.
 ///
-/// `may` says which calls may be made on locks that started with these contents. `row_of` is the row of a call, if it has one. `needs` says whether it needs the pool, by the bucket of its row. `does` is what it does
+/// `may` says which calls may have which places on locks that started with these contents. `row_of` is the row of a call, if it has one. `needs` says whether it needs the pool, by the bucket of its row. `does` is what it does
 /// by that bucket, the pool where it needs it, and the number of rows. `empty` says which rows and pool are an empty state, and `counts`
 /// that after every list of calls from an empty state the number of rows is 0 to 1,048,576, and a call that takes a row away finds one.
 pub trait Called<B, P> {
@@ -40,7 +40,7 @@ pub trait Called<B, P> {
 
     type Reply;
 
-    ghost may: { Contents B P → Self.Call → Type 0 };
+    ghost may: { Contents B P → ℕ → Self.Call → Type 0 };
 
     ghost row_of: { Self.Call → Option ℕ };
 

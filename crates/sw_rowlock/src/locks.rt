@@ -114,7 +114,7 @@ impl<B: Drop, P: Drop, C: Called<B, P>> RowLocks<B, P, C> {
         requires empty { C.empty rows.items pool }
         requires few { length rows.items ≤ 524288 }
         ensures start { IfOk result (λ r. r.0.start ≡ contents rows.items pool 0) }
-        ensures seat { IfOk result (λ r. r.1 ≡ new_seat r.0 all_parts []) }
+        ensures seat { IfOk result (λ r. r.1 ≡ new_seat r.0 all_parts [] []) }
     {
         let start = Start {
             rows: Snapshot::of(&rows),
@@ -134,7 +134,7 @@ impl<B: Drop, P: Drop, C: Called<B, P>> RowLocks<B, P, C> {
         requires seat { IsSeatOf self.now seat.old }
         requires parts { 0 < N.parts → N.parts < seat.old.parts }
         ensures seat { seat.new ≡ record seat.old { parts = seat.old.parts - N.parts } }
-        ensures result { result ≡ new_seat self.now N.parts (others (calls seat.old.seen)) }
+        ensures result { result ≡ new_seat self.now N.parts (others (calls seat.old.seen)) seat.old.also }
     {
         Seat {
             place: self.table.shared.split_seat::<Cuts<N>>(&mut seat.place),
@@ -146,7 +146,7 @@ impl<B: Drop, P: Drop, C: Called<B, P>> RowLocks<B, P, C> {
         requires seat { IsSeatOf self.now seat.old }
         requires other { IsSeatOf self.now other }
         requires empty { (other.row ≡ None) × (other.pool ≡ None) }
-        ensures seat { seat.new ≡ record seat.old { parts = seat.old.parts + other.parts; seen = merged seat.old.seen other.seen; refusals = seat.old.refusals ++ other.refusals } }
+        ensures seat { seat.new ≡ record seat.old { parts = seat.old.parts + other.parts; seen = merged seat.old.seen other.seen; refusals = seat.old.refusals ++ other.refusals; also = seat.old.also ++ (other.also ++ calls other.seen ∷ []) } }
         ensures draws { (p : ℕ) → times_drawn p seat.new.seen ≡ times_drawn p seat.old.seen + times_drawn p other.seen }
     {
         let Seat { place } = other;
@@ -224,7 +224,7 @@ impl<B: Drop, P: Drop, C: Called<B, P>> RowLocks<B, P, C> {
         requires part { 0 < seat.old.parts }
         requires row { HoldsRow (C.row_of Q.call) seat.old.row }
         requires pool { HoldsPool (C.needs Q.call (bucket_held (C.row_of Q.call) seat.old.row)) seat.old.pool }
-        requires may { C.may self.now.start Q.call }
+        requires may { (at : ℕ) → at < last_call → C.may self.now.start at Q.call }
         requires change { (c : ℕ) → (done_on C.row_of C.needs C.does Q.call seat.old.row seat.old.pool c).change ≡ change }
         requires last { last_call ≤ 8796093022207 }
         ensures room { IfOk result (λ d. d.at < last_call) }
@@ -285,7 +285,11 @@ impl<B: Drop, P: Drop, C: Called<B, P>> RowLocks<B, P, C> {
     }
 
     /// Loads the sequence word: how many calls were drawn, and how many rows there are.
-    pub fn count(&self, seat: &mut Seat<B, P, C>) -> Drawn {
+    pub fn count(&self, seat: &mut Seat<B, P, C>) -> Drawn
+        requires seat { IsSeatOf self.now seat.old }
+        requires part { 0 < seat.old.parts }
+        ensures { LookedAt C.may C.row_of C.needs C.does self.now.start seat.old seat.new (result.at * 2097152 + result.rows) }
+    {
         let found = self.look(seat);
         Drawn {
             at: found / ONE_CALL,
@@ -310,7 +314,7 @@ impl<B: Drop, P: Drop, C: Called<B, P>> RowLocks<B, P, C> {
         requires part { 0 < seat.old.parts }
         requires row { HoldsRow (C.row_of Q.call) seat.old.row }
         requires pool { HoldsPool (C.needs Q.call (bucket_held (C.row_of Q.call) seat.old.row)) seat.old.pool }
-        requires may { C.may self.now.start Q.call }
+        requires may { C.may self.now.start (old / 2097152) Q.call }
         requires change { (c : ℕ) → (done_on C.row_of C.needs C.does Q.call seat.old.row seat.old.pool c).change ≡ change }
         requires room { old + 2097153 < 2 ^ 64 }
         ensures { MatchBool (result == old)

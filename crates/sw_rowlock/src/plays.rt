@@ -30,7 +30,7 @@ impl<B, P, C: Called<B, P>> TableRule<
 
     ghost holds = { λ k. Locked (effect C.row_of C.needs C.does) cells count_of C.may all_parts (suc (length (start_of k).rows)) (start_of k) };
 
-    ghost first = { λ k. knows all_parts (Some (start_of k)) [] [] [] };
+    ghost first = { λ k. knows all_parts (Some (start_of k)) [] [] [] [] };
 }
 
 /// Takes a row.
@@ -71,7 +71,7 @@ impl<B, P, Q> Play<Slot<B, P>, View<Slot<B, P>, Q, Contents<B, P>>> for GivesRow
     ghost use Rattle.atomic_table.specs.Table.{rest};
     ghost use Rattle.sw_rowlock.specs.Rule.{knows};
 
-    ghost then = { λ s m r n. n ≡ (knows m.0.parts m.0.start m.0.seen (rest m.0.held) m.0.refusals, rest m.1) };
+    ghost then = { λ s m r n. n ≡ (knows m.0.parts m.0.start m.0.seen (rest m.0.held) m.0.refusals m.0.also, rest m.1) };
 }
 
 /// Gives the pool.
@@ -83,7 +83,7 @@ impl<B, P, Q> Play<Slot<B, P>, View<Slot<B, P>, Q, Contents<B, P>>> for GivesPoo
     ghost use Rattle.sw_rowlock.specs.Rule.{knows};
     ghost use Rattle.sw_rowlock.specs.Seats.{row_part, row_in};
 
-    ghost then = { λ s m r n. n ≡ (knows m.0.parts m.0.start m.0.seen (row_part (row_in m.0.held) []) m.0.refusals, rest m.1) };
+    ghost then = { λ s m r n. n ≡ (knows m.0.parts m.0.start m.0.seen (row_part (row_in m.0.held) []) m.0.refusals m.0.also, rest m.1) };
 }
 
 /// Loads the sequence word.
@@ -127,20 +127,20 @@ impl<S, Q, T, N: Parts> Split<View<S, Q, T>> for Cuts<N> {
     ghost use Rattle.sw_rowlock.specs.Rule.{knows};
     ghost use Rattle.sw_rowlock.specs.History.{others, calls};
 
-    ghost left = { λ v. knows (v.parts - N.parts) v.start v.seen v.held v.refusals };
+    ghost left = { λ v. knows (v.parts - N.parts) v.start v.seen v.held v.refusals v.also };
 
-    ghost right = { λ v. knows N.parts v.start (others (calls v.seen)) [] [] };
+    ghost right = { λ v. knows N.parts v.start (others (calls v.seen)) [] [] v.also };
 }
 
 /// Two seats become one.
 pub struct Joined;
 
 impl<S, Q, T> Join<View<S, Q, T>> for Joined {
-    ghost use Rattle.std.specs.Prelude.{◌+◌, ◌++◌};
+    ghost use Rattle.std.specs.Prelude.{◌+◌, ◌++◌, ◌∷◌, []};
     ghost use Rattle.sw_rowlock.specs.Rule.{knows, nobody};
-    ghost use Rattle.sw_rowlock.specs.History.{merged};
+    ghost use Rattle.sw_rowlock.specs.History.{merged, calls};
 
-    ghost both = { λ v w. knows (v.parts + w.parts) v.start (merged v.seen w.seen) v.held (v.refusals ++ w.refusals) };
+    ghost both = { λ v w. knows (v.parts + w.parts) v.start (merged v.seen w.seen) v.held (v.refusals ++ w.refusals) (v.also ++ (w.also ++ calls w.seen ∷ [])) };
 
     ghost spent = { nobody };
 }

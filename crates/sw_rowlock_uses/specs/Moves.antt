@@ -8,9 +8,9 @@ abbrev pub or_zero : Option ℕ → ℕ
 or_zero None = 0
 or_zero (Some x) = x
 
--- any move may be made
-abbrev pub AnyMove : Contents ℕ ℕ → ℕ × ℕ → Type 0
-AnyMove start q = Unit {0}
+-- any move may be made, at any place
+abbrev pub AnyMove : Contents ℕ ℕ → ℕ → ℕ × ℕ → Type 0
+AnyMove start at q = Unit {0}
 
 -- the row, and how much is to be moved
 abbrev pub move_row : ℕ × ℕ → Option ℕ

@@ -5,9 +5,9 @@ use Rattle.sw_rowlock.specs.declared.calls.Contents.{Contents}
 use Rattle.sw_rowlock.specs.declared.calls.Change.TheVariants.{Same, More, Less}
 use Rattle.sw_rowlock.specs.Calls.{Done}
 
--- a write is to a row that is there
-abbrev pub WriteFits : Contents ℕ ℕ → ℕ × ℕ → Type 0
-WriteFits start q = q.0 < length start.rows
+-- a write is to a row that is there, at any place
+abbrev pub WriteFits : Contents ℕ ℕ → ℕ → ℕ × ℕ → Type 0
+WriteFits start at q = q.0 < length start.rows
 
 -- the row, and the number that is written
 abbrev pub write_row : ℕ × ℕ → Option ℕ

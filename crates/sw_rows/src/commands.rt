@@ -1,4 +1,4 @@
-// Whole runs of the command: each status with the exact text that is written.
+//! Whole runs of the command: each status with the exact text that is written.
 
 use std::alloc::Global;
 use std::test::Fail;

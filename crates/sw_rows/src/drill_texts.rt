@@ -1,8 +1,9 @@
-// Which texts are a drill, with the line that is refused, and the text of a record.
+//! Which texts are a drill, with the line that is refused, and the text of a record.
 
 use std::alloc::Global;
 use std::test::Fail;
-use sw_data::{Act, Answer, Cause, Ended, Event, Given, Log, Octets, Pieces, Session};
+use sw_base::{Octets, Pieces, Session};
+use sw_data::{Act, Answer, Cause, Ended, Event, Given, Log};
 use sw_drill::{Line, print, read};
 use sw_record::{ActorId, LinkRecord, LinkState, Links, Logs, Record, Step};
 use sw_settings::SetValue;

@@ -1,4 +1,4 @@
-// The end of a link before, between and behind its packets, and pieces that cut the mark.
+//! The end of a link before, between and behind its packets, and pieces that cut the mark.
 
 use crate::playing::plays;
 use std::test::Fail;

@@ -1,4 +1,4 @@
-// Links that end since their bytes are no packets.
+//! Links that end since their bytes are no packets.
 
 use crate::playing::plays_under;
 use std::test::Fail;

@@ -1,4 +1,4 @@
-// Length fields of each width, more packets in a piece, and pieces that are packets.
+//! Length fields of each width, more packets in a piece, and pieces that are packets.
 
 use crate::playing::plays_under;
 use std::test::Fail;

@@ -1,4 +1,4 @@
-// Packets that name their length, raw pieces, and bytes that are no packets.
+//! Packets that name their length, raw pieces, and bytes that are no packets.
 
 use crate::playing::plays_under;
 use std::test::Fail;

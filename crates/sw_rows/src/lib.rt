@@ -1,5 +1,5 @@
-// Whole runs of the command: each status with its text, and schedules against records that were written out by hand from what
-// the server promises. The texts of drills and of records stand here too, since a crate with tests is proved twice.
+//! Whole runs of the command: each status with its text, and schedules against records that were written out by hand from what
+//! the server promises. The texts of drills and of records stand here too, since a crate with tests is proved twice.
 #![tactic(auto)]
 
 #[cfg(test)]

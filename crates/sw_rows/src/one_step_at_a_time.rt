@@ -1,4 +1,4 @@
-// The three actors in each order, a few steps at a time.
+//! The three actors in each order, a few steps at a time.
 
 use crate::playing::plays;
 use std::test::Fail;

@@ -1,4 +1,4 @@
-// A schedule of one link, played by the command.
+//! A schedule of one link, played by the command.
 
 use std::alloc::Global;
 use std::process::Abort;

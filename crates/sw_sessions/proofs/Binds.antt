@@ -8,8 +8,8 @@ use prog.Atomic.{either}
 use Rattle.std.proofs.Math.Nat.{div-add-mod'}
 use Rattle.atomic_table.specs.Table.{Me, Act, keeps, Valid, carried_after, stepped, Allows}
 use Rattle.atomic_table.proofs.Lists.{exchanged}
-use Rattle.sw_ports.specs.Claims.{In}
-use Rattle.sw_ports.proofs.Members.{in_snoc}
+use Rattle.sw_port_book.specs.Claims.{In}
+use Rattle.sw_port_book.proofs.Members.{in_snoc}
 use Rattle.sw_sessions.specs.declared.rule.Call.{Call}
 use Rattle.sw_sessions.specs.declared.rule.Call.TheVariants.{Bind, Release}
 use Rattle.sw_sessions.specs.declared.rule.View.{View}

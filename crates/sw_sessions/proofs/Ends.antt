@@ -6,7 +6,7 @@ use lib.ListN.{get_elem?}
 use Rattle.atomic_table.specs.Table.{Me, keeps, Allows, opening}
 use Rattle.sw_sessions.specs.declared.rule.Call.{Call}
 use Rattle.sw_sessions.specs.declared.rule.View.{View}
-use Rattle.sw_ports.specs.Claims.{In}
+use Rattle.sw_port_book.specs.Claims.{In}
 use Rattle.sw_sessions.specs.declared.rule.Call.TheVariants.{Look, Bind, Release}
 use Rattle.sw_sessions.specs.Calls.{Met, one_if, binds, binds_in, ok_bind, slot_of, number_found, uid_found, Settled}
 use Rattle.sw_sessions.specs.Rule.{total, once, Told, Fits, Kept, clerk}

@@ -5,9 +5,9 @@ use mathlib.Core.Logic.{dite}
 use native.Mathlib.Decide.{ℕ_discrete}
 use lib.ListN.{get_elem?}
 use Rattle.atomic_table.proofs.Lists.{at_set}
-use Rattle.sw_ports.specs.Claims.{In}
-use Rattle.sw_ports.specs.declared.word.Word.{Word}
-use Rattle.sw_ports.proofs.Members.{in_longer}
+use Rattle.sw_port_book.specs.Claims.{In}
+use Rattle.sw_port_book.specs.declared.word.Word.{Word}
+use Rattle.sw_port_book.proofs.Members.{in_longer}
 use Rattle.sw_sessions.specs.declared.rule.Call.{Call}
 use Rattle.sw_sessions.specs.declared.rule.Call.TheVariants.{Look, Bind, Release}
 use Rattle.sw_sessions.specs.declared.rule.View.{View}

@@ -5,8 +5,8 @@ use lib.ListN.{get_elem?}
 use Rattle.atomic_table.specs.Table.{State, Splits, Joins}
 use Rattle.atomic_table.proofs.Lists.{at_set}
 use Rattle.sw_sessions.specs.declared.rule.View.{View}
-use Rattle.sw_ports.specs.Claims.{In}
-use Rattle.sw_ports.proofs.Members.{in_append}
+use Rattle.sw_port_book.specs.Claims.{In}
+use Rattle.sw_port_book.proofs.Members.{in_append}
 use Rattle.sw_sessions.specs.Calls.{one_if, binds_in}
 use Rattle.sw_sessions.specs.Rule.{total, passes_in, Holds, Fits, Kept, closer, clerk, ticket, pair, passer, carrier, nobody}
 use Rattle.sw_sessions.proofs.Moves.{put, put_here, total_set, total_snoc, binds-append, each_set, each_snoc, move, desk_still, no_desk, keep_else, two_slots}

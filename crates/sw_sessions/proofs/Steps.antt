@@ -8,8 +8,8 @@ use prog.Atomic.{either}
 use lib.ListN.{get_elem?}
 use Rattle.atomic_table.specs.Table.{State, Me, Act, keeps, Valid, carried_after, stepped, Allows}
 use Rattle.atomic_table.proofs.Lists.{exchanged}
-use Rattle.sw_ports.specs.Claims.{In}
-use Rattle.sw_ports.proofs.Members.{in_snoc, in_longer, in_last}
+use Rattle.sw_port_book.specs.Claims.{In}
+use Rattle.sw_port_book.proofs.Members.{in_snoc, in_longer, in_last}
 use Rattle.sw_sessions.specs.declared.rule.Call.{Call}
 use Rattle.sw_sessions.specs.declared.rule.Call.TheVariants.{Look}
 use Rattle.sw_sessions.specs.declared.rule.View.{View}

@@ -1,6 +1,6 @@
 -- What the calls of all passes of a book have to do with one another.
 use Rattle.std.specs.Prelude.{◌≡◌, ◌≢◌, ℕ, ◌+◌, ◌%◌, ◌≤◌, ◌==◌, ◌&&◌, Bool, true, false, List, [], ◌∷◌}
-use Rattle.sw_ports.specs.Claims.{In}
+use Rattle.sw_port_book.specs.Claims.{In}
 use Rattle.sw_sessions.specs.declared.rule.Call.{Call}
 use Rattle.sw_sessions.specs.declared.rule.Call.TheVariants.{Look, Bind, Release}
 

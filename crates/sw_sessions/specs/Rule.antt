@@ -3,8 +3,8 @@ use Rattle.std.specs.Prelude.{◌≡◌, ◌≢◌, ℕ, zero, suc, ◌+◌, ◌
 use mathlib.Core.Option.{some}
 use lib.ListN.{get_elem?}
 use Rattle.atomic_table.specs.Table.{State}
-use Rattle.sw_ports.specs.Claims.{In}
-use Rattle.sw_ports.specs.declared.word.Word.{Word}
+use Rattle.sw_port_book.specs.Claims.{In}
+use Rattle.sw_port_book.specs.declared.word.Word.{Word}
 use Rattle.sw_sessions.specs.declared.rule.Call.{Call}
 use Rattle.sw_sessions.specs.declared.rule.Call.TheVariants.{Look, Bind, Release}
 use Rattle.sw_sessions.specs.declared.rule.View.{View}

@@ -1,8 +1,8 @@
 -- What clauses see of a clerk, a pass and a ticket.
 use Rattle.std.specs.Prelude.{◌≡◌, ℕ, ◌/◌, List, [], ◌∷◌, ◌++◌, Result, IfOk}
 use Rattle.atomic_table.specs.Seated.{TableId}
-use Rattle.sw_ports.specs.declared.answers.ClaimFault.{ClaimFault}
-use Rattle.sw_ports.specs.Claims.{Claims, answer_of, numbers_of}
+use Rattle.sw_port_book.specs.declared.answers.ClaimFault.{ClaimFault}
+use Rattle.sw_port_book.specs.Claims.{Claims, answer_of, numbers_of}
 use Rattle.sw_sessions.specs.declared.rule.Call.{Call}
 
 -- how many slots a book has: each has one of eight words in a row, so that no two share a cache line

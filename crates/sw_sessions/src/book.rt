@@ -1,4 +1,4 @@
-// The words themselves, and one method for each step on them.
+//! The words themselves, and one method for each step on them.
 ghost use Rattle.std.specs.Prelude.{◌≡◌, ◌≤◌, ◌*◌};
 
 use crate::rule::{
@@ -24,7 +24,7 @@ pub struct Book {
 
 impl Book {
     ghost use Rattle.std.specs.Prelude.{◌≡◌, ◌≢◌, ◌≤◌, ◌<◌, ◌+◌, ◌-◌, ◌*◌, ◌/◌, ◌%◌, ℕ, [], ◌∷◌, ◌++◌, IfOk, MatchOption};
-    ghost use Rattle.sw_ports.specs.Claims.{In};
+    ghost use Rattle.sw_port_book.specs.Claims.{In};
     ghost use Rattle.sw_sessions.specs.Places.{book_id, drawn_at, claimed_at, out_at, calls_at, IsClerk, IsPass, IsTicket};
     ghost use Rattle.sw_sessions.specs.Values.{slots};
     ghost use Rattle.sw_sessions.specs.Rule.{word_in};

@@ -1,6 +1,6 @@
 //! The door's part of a book: numbers are claimed here, and passes made.
 ghost use Rattle.std.specs.Prelude.{◌≡◌, ◌<◌, ◌≤◌, ◌+◌, ◌%◌, ℕ, List, [], ◌∷◌, ◌++◌, IfOk, IfErr, MatchOption, MatchBool};
-ghost use Rattle.sw_ports.specs.Claims.{In};
+ghost use Rattle.sw_port_book.specs.Claims.{In};
 ghost use Rattle.sw_sessions.specs.Values.{slots, clerk_now, pass_now, ticket_now, ClerkClaims};
 
 use crate::book::{Book, Place};
@@ -9,8 +9,8 @@ use crate::ticket::Ticket;
 use std::alloc::Global;
 use std::marker::Model;
 use std::sync::Arc;
-use sw_data::{OutOfMemory, Session};
-use sw_ports::{ClaimFault, Desk};
+use sw_base::{OutOfMemory, Session};
+use sw_port_book::{ClaimFault, Desk};
 
 /// The one who claims numbers and makes passes. Contracts see its book, the last number drawn, the numbers that it
 /// claimed, in order, and how many passes it made.

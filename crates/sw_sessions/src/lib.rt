@@ -1,6 +1,6 @@
-// The words of live sessions, shared between threads. The door's clerk claims numbers, and each actor looks, binds
-// and releases through a pass of its own. A ticket is a seat at the words: it moves with its link, and its number
-// stands in its slot for as long as the ticket lives.
+//! The words of live sessions, shared between threads. The door's clerk claims numbers, and each actor looks, binds
+//! and releases through a pass of its own. A ticket is a seat at the words: it moves with its link, and its number
+//! stands in its slot for as long as the ticket lives.
 #![tactic(auto)]
 
 mod book;

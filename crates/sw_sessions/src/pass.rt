@@ -7,8 +7,8 @@ use crate::book::{Book as Words, Place};
 use crate::ticket::Ticket;
 use std::marker::Model;
 use std::sync::Arc;
-use sw_data::Session;
-use sw_ports::{BindFault, Book, Look, Ticketed};
+use sw_base::Session;
+use sw_port_book::{BindFault, Book, Look, Ticketed};
 
 /// The right to look, bind and release, for one actor. Contracts see its book and its calls, each with what it found.
 #[derive(Drop)]

@@ -1,8 +1,8 @@
-// What the seats at the words know, and what each step on a word tells. None of these values is ever made: they are
-// the plain data of the proofs.
+//! What the seats at the words know, and what each step on a word tells. None of these values is ever made: they are
+//! the plain data of the proofs.
 use atomic_table::{Join, Play, Split, TableRule};
 use std::collections::LinkedList;
-use sw_ports::Word;
+use sw_port_book::Word;
 
 /// A call of a pass, and what it found.
 pub enum Call {

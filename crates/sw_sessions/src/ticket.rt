@@ -1,8 +1,8 @@
 //! What a link has of a book, from the claim of its number to the release.
 use crate::book::Place;
 use std::marker::Model;
-use sw_data::Session;
-use sw_ports::Ticketed;
+use sw_base::Session;
+use sw_port_book::Ticketed;
 
 /// A claimed number: a seat at the words, which moves with its link. Contracts see its book and its number, which
 /// stands in its slot for as long as there is this ticket.

@@ -2,11 +2,11 @@
 use Rattle.std.proofs.Common.{◌≡◌, ◌≤◌, ◌+◌, ℕ, Bool, true, false, true≢false, List, [], ◌∷◌, sym, refl, ap, ◌∙◌, subst, inl, inr, Result, Ok, Err, arith}
 use mathlib.Core.Logic.{dite}
 use native.Mathlib.Decide.{ℕ_discrete}
-use Rattle.sw_ports.specs.declared.word.Word.{Word}
-use Rattle.sw_ports.specs.declared.answers.BindFault.{BindFault}
-use Rattle.sw_ports.specs.Answers.{bind_answer}
-use Rattle.sw_ports.specs.Claims.{In}
-use Rattle.sw_ports.proofs.Answered.{bind_other, bind_bound}
+use Rattle.sw_port_book.specs.declared.word.Word.{Word}
+use Rattle.sw_port_book.specs.declared.answers.BindFault.{BindFault}
+use Rattle.sw_port_book.specs.Answers.{bind_answer}
+use Rattle.sw_port_book.specs.Claims.{In}
+use Rattle.sw_port_book.proofs.Answered.{bind_other, bind_bound}
 use Rattle.sw_sessions.specs.declared.rule.Call.{Call}
 use Rattle.sw_sessions.specs.declared.rule.Call.TheVariants.{Look, Bind, Release}
 use Rattle.sw_sessions.specs.Calls.{ok_bind, binds, binds_in, one_if, BoundOnce, ReleasesTell}

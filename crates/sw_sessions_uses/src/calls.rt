@@ -1,9 +1,9 @@
 //! The table of calls that both forms answer: its rows, and what any book does with one.
 ghost use Rattle.std.specs.Prelude.{◌<◌, IfSome, vec_len};
-ghost use Rattle.sw_ports.specs.Answers.{Keeps};
+ghost use Rattle.sw_port_book.specs.Answers.{Keeps};
 
-use sw_data::Session;
-use sw_ports::{BindFault, Book, Look, Ticketed};
+use sw_base::Session;
+use sw_port_book::{BindFault, Book, Look, Ticketed};
 
 /// A call on a desk or a book. Sessions are named by their numbers.
 #[derive(Clone, Copy)]

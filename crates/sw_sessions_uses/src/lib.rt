@@ -1,5 +1,5 @@
-// Callers of the session ports: one table of calls that the plain form and the shared form both answer, and threads
-// that share a book.
+//! Callers of the session ports: one table of calls that the plain form and the shared form both answer, and threads
+//! that share a book.
 #![tactic(auto)]
 
 mod calls;

@@ -3,8 +3,8 @@ ghost use Rattle.std.specs.Prelude.{◌≡◌, ◌≤◌, All, IfSome};
 
 use crate::calls::{Asked, Heard, bind_to, look_at, place_of};
 use std::alloc::Global;
-use sw_data::OutOfMemory;
-use sw_ports::{Book, ClaimFault, Desk, Ticketed};
+use sw_base::OutOfMemory;
+use sw_port_book::{Book, ClaimFault, Desk, Ticketed};
 use sw_sessions::{Clerk, Pass, Ticket, make};
 
 /// What a shared book of `max_conn` slots answers to a table of calls, through one pass.

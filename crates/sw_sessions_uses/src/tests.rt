@@ -5,7 +5,7 @@ use super::*;
 use std::alloc::Global;
 use std::process::Abort;
 use std::test::Fail;
-use sw_ports::BindFault;
+use sw_port_book::BindFault;
 use sw_sessions::{close, make};
 
 /// A call and its answer.

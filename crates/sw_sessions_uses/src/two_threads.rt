@@ -1,7 +1,7 @@
 //! Two threads that bind one session.
 ghost use Rattle.std.specs.Prelude.{◌≡◌, ◌≢◌, ◌≤◌, ◌<◌, ◌%◌, ◌++◌, [], ◌∷◌, IfOk, IfSome, All};
-ghost use Rattle.sw_ports.specs.declared.word.Word.{Word};
-ghost use Rattle.sw_ports.specs.Answers.{bind_answer};
+ghost use Rattle.sw_port_book.specs.declared.word.Word.{Word};
+ghost use Rattle.sw_port_book.specs.Answers.{bind_answer};
 ghost use Rattle.sw_sessions.specs.declared.rule.Call.TheVariants.{Look, Bind};
 ghost use Rattle.sw_sessions.specs.Values.{slots, called};
 ghost use Rattle.sw_sessions_uses.specs.Race.{BoundByOne};
@@ -9,8 +9,8 @@ ghost use Rattle.sw_sessions_uses.specs.Race.{BoundByOne};
 use std::alloc::Global;
 use std::thread;
 use std::thread::Threads;
-use sw_data::{OutOfMemory, Session};
-use sw_ports::{BindFault, Book, Desk, Ticketed};
+use sw_base::{OutOfMemory, Session};
+use sw_port_book::{BindFault, Book, Desk, Ticketed};
 use sw_sessions::{Clerk, Pass, Ticket, close, make};
 
 /// What two threads heard that bound one session, and the uid that its release found.

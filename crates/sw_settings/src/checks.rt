@@ -1,4 +1,4 @@
-// What may be wrong with a pair alone.
+//! What may be wrong with a pair alone.
 
 ghost use Rattle.std.specs.Prelude.{◌≡◌, List};
 ghost use Rattle.std.specs.Option.{option_copied};
@@ -6,7 +6,7 @@ ghost use Rattle.sw_settings.specs.Checks.{is_word, fits_word, is_text, is_truth
 
 use crate::keys::{Rule, letter_of, rule_of};
 use crate::pair::{Pair, SetValue};
-use sw_data::Octets;
+use sw_base::Octets;
 
 /// What a pair is tested for, in the order in which it is.
 #[derive(Clone, Copy)]

@@ -1,4 +1,4 @@
-// Why pairs are refused.
+//! Why pairs are refused.
 
 ghost use Rattle.std.specs.Prelude.{◌≡◌, IfOk, codes, None, Some};
 ghost use Rattle.std.specs.Option.{option_copied};
@@ -10,7 +10,7 @@ use crate::keys::{Rule, rule_of};
 use crate::pair::Pair;
 use crate::values::{text, truth};
 use std::alloc::{AllocError, Global};
-use sw_data::{Key, OutOfMemory};
+use sw_base::{Key, OutOfMemory};
 
 /// Why pairs are refused, in the order in which the reasons are looked for. Among several keys with one reason it is the
 /// first key in byte order.

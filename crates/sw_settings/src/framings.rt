@@ -1,4 +1,4 @@
-// How a stream is cut, by what is set.
+//! How a stream is cut, by what is set.
 
 ghost use Rattle.std.specs.Prelude.{◌≡◌, ◌≤◌, ◌<◌, length, IfOk, IfSome, codes, None, true, [], List, ℕ, Bool};
 ghost use Rattle.std.specs.Option.{unwrap_or};
@@ -11,7 +11,7 @@ use crate::keys::letter_of;
 use crate::pair::Pair;
 use crate::values::{number, text, truth};
 use std::alloc::Global;
-use sw_data::{Octets, OutOfMemory};
+use sw_base::{Octets, OutOfMemory};
 use sw_frame::Framing;
 use sw_frame_len::{LengthRule, Letter};
 

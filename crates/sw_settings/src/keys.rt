@@ -1,4 +1,4 @@
-// The table of keys: a new key is a line here and in its definition.
+//! The table of keys: a new key is a line here and in its definition.
 
 ghost use Rattle.std.specs.Prelude.{◌≡◌, IfSome};
 ghost use Rattle.sw_settings.specs.Keys.{rule_of, letter_of, IsSoundRule};

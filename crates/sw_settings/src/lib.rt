@@ -1,5 +1,5 @@
-// What a server is set to: the table of keys, the refusals, and a reader for each key. Stands between the texts in which
-// settings come and the actors that are made by them.
+//! What a server is set to: the table of keys, the refusals, and a reader for each key. Stands between the texts in which
+//! settings come and the actors that are made by them.
 #![tactic(auto)]
 
 mod checks;

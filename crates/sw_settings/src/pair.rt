@@ -1,5 +1,5 @@
-// A key with what it is set to.
-use sw_data::Octets;
+//! A key with what it is set to.
+use sw_base::Octets;
 
 /// What a key is set to, as it was read.
 #[derive(Drop, Debug)]

@@ -1,4 +1,4 @@
-// What a server is set to.
+//! What a server is set to.
 
 ghost use Rattle.std.specs.Prelude.{◌≡◌, ◌≤◌, codes, IfOk, IfErr, None, List};
 ghost use Rattle.std.specs.Option.{option_copied};
@@ -13,7 +13,7 @@ use crate::pair::Pair;
 use crate::values::{number, text, truth};
 use std::alloc::Global;
 use std::marker::Model;
-use sw_data::Octets;
+use sw_base::Octets;
 use sw_frame::Framing;
 use sw_frame_len::Letter;
 

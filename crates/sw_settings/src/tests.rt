@@ -1,10 +1,10 @@
-// Which pairs are settings, and the refusal of those that aren't, by the table of keys.
+//! Which pairs are settings, and the refusal of those that aren't, by the table of keys.
 
 use super::*;
 use Put::{N, S, T};
 use std::alloc::Global;
 use std::test::Fail;
-use sw_data::Octets;
+use sw_base::Octets;
 use sw_frame::Framing;
 use sw_frame_len::{LengthRule, Letter};
 

@@ -1,4 +1,4 @@
-// What keys are set to: the pair's value where there is one, and else the default.
+//! What keys are set to: the pair's value where there is one, and else the default.
 
 ghost use Rattle.std.specs.Prelude.{◌≡◌, ◌≤◌, IfSome, Some, None, true, Bool};
 ghost use Rattle.std.specs.Option.{option_copied};
@@ -9,7 +9,7 @@ ghost use Rattle.sw_settings.specs.Faults.{fault_of};
 
 use crate::keys::{Rule, rule_of};
 use crate::pair::{Pair, SetValue};
-use sw_data::Octets;
+use sw_base::Octets;
 
 /// The value that the pairs give to a name: that of the first pair of this name. None exactly where no pair has it.
 pub fn given<'a>(pairs: &'a [Pair], name: &[u8]) -> Option<&'a SetValue>

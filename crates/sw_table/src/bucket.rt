@@ -7,7 +7,7 @@ use std::marker::Model;
 use std::snapshot::Snapshot;
 use sw_chain::Chain;
 use sw_column::Schema;
-use sw_data::OutOfMemory;
+use sw_base::OutOfMemory;
 
 /// The rows of a bucket, in a box, so that who takes it moves a pointer. Contracts see the columns and the rows by their
 /// keys.

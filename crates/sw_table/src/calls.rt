@@ -2,7 +2,7 @@
 use crate::bucket::Bucket;
 use crate::pool::Pool;
 use std::marker::{Brand, PhantomData};
-use sw_data::{Cells, Reply};
+use sw_base::{Cells, Reply};
 use sw_rowlock::{Asked, Called};
 use sw_table_join::TableCall;
 
@@ -39,7 +39,7 @@ pub trait Making {
 
 impl Making for Brand {
     ghost use Rattle.std.specs.Prelude.{[]};
-    ghost use Rattle.sw_data.specs.declared.table.Call.TheVariants.{Count};
+    ghost use Rattle.sw_base.specs.declared.table.Call.TheVariants.{Count};
 
     ghost made = { record { columns = []; size = 1; call = Count } };
 }

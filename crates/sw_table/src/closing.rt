@@ -4,7 +4,7 @@ use crate::hands::Hands;
 use crate::table::{Seat, Table};
 use std::alloc::Global;
 use sw_column::{RowBuf, Schema};
-use sw_data::OutOfMemory;
+use sw_base::OutOfMemory;
 use sw_tmodel::Plain;
 
 /// Why a Table wasn't closed: it stands as before, and what was given comes back.

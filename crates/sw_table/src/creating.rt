@@ -4,7 +4,7 @@ ghost use Rattle.sw_column.specs.Values.{blank};
 ghost use Rattle.sw_rowlock.specs.Seats.{new_seat};
 ghost use Rattle.sw_table_laws.specs.Sizes.{raised};
 ghost use Rattle.sw_table_join.specs.Calls.{empty_bucket};
-ghost use Rattle.sw_table.specs.Tables.{IsHandsOf};
+ghost use Rattle.sw_table_join.specs.Tables.{IsHandsOf};
 
 use crate::bucket::Bucket;
 use crate::hands::Hands;
@@ -12,7 +12,7 @@ use crate::pool::Pool;
 use crate::table::{Seat, Table};
 use std::alloc::Global;
 use sw_column::{RowBuf, Schema};
-use sw_data::OutOfMemory;
+use sw_base::OutOfMemory;
 use sw_rowlock::{OnePart, RowLocks};
 use sw_tmodel::raised;
 
@@ -31,10 +31,10 @@ pub fn create(
     requires last_call { last_call ≤ 8796093022207 }
     ensures table { IfOk result (λ r. (r.0.columns ≡ schema) × (r.0.size ≡ raised size) × (r.0.percent ≡ percent) × (r.0.last_call ≡ last_call)) }
     ensures hands { IfOk result (λ r. IsHandsOf r.0 r.1 × (r.1.made ≡ 1)) }
-    ensures seat { IfOk result (λ r. r.2 ≡ new_seat r.0.locks 1 []) }
+    ensures seat { IfOk result (λ r. r.2 ≡ new_seat r.0.locks 1 [] []) }
 {
     let size = raised(size);
-    let pool = Pool::make(alloc, (size * percent / 100) as usize)?;
+    let pool = Pool::make(alloc, (size * percent / 100) as usize, last_call)?;
     let rows = buckets(alloc, &schema, size)?;
     let blank = RowBuf::make(alloc, &schema)?;
     let Ok((locks, seat)) = RowLocks::make(alloc, rows, pool) else {

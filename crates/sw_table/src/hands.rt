@@ -1,8 +1,8 @@
 //! The seats of a Table, and what they tell each other.
-ghost use Rattle.std.specs.Prelude.{◌≡◌, ◌<◌, ◌≤◌, ◌+◌, length, None, Some};
+ghost use Rattle.std.specs.Prelude.{◌≡◌, ◌<◌, ◌≤◌, ◌+◌, ◌++◌, ◌∷◌, [], length, None, Some};
 ghost use Rattle.sw_rowlock.specs.History.{calls, others, merged, draws_of};
 ghost use Rattle.sw_rowlock.specs.Seats.{IsSeatOf, new_seat};
-ghost use Rattle.sw_table.specs.Tables.{IsReady, IsHandsOf};
+ghost use Rattle.sw_table_join.specs.Tables.{IsReady, IsHandsOf};
 
 use crate::table::{Seat, Table};
 use std::marker::Model;
@@ -16,7 +16,7 @@ pub struct Hands {
 }
 
 impl Model for Hands {
-    ghost use Rattle.sw_table.specs.Tables.{HandsNow, IsHands};
+    ghost use Rattle.sw_table_join.specs.Tables.{HandsNow, IsHands};
 
     ghost Value = { HandsNow };
 
@@ -38,7 +38,7 @@ impl Hands {
         requires room { self.old.made < 4294967295 }
         ensures hands { self.new ≡ record self.old { made = self.old.made + 1 } }
         ensures from { from.new ≡ from.old }
-        ensures seat { result ≡ new_seat table.now.locks 1 (others (calls from.old.seen)) }
+        ensures seat { result ≡ new_seat table.now.locks 1 (others (calls from.old.seen)) (from.old.also ++ calls from.old.seen ∷ []) }
     {
         let mut seat = table.locks.split::<OnePart>(&mut self.rest);
         let seen = table.locks.split::<NoPart>(from);
@@ -62,7 +62,7 @@ pub struct Note {
 }
 
 impl Model for Note {
-    ghost use Rattle.sw_table.specs.Tables.{SeatView, IsNote};
+    ghost use Rattle.sw_table_join.specs.Tables.{SeatView, IsNote};
 
     ghost Value = { SeatView };
 
@@ -81,7 +81,7 @@ impl Table {
     pub fn note(&self, seat: &mut Seat) -> Note
         requires seat { IsSeatOf self.now.locks seat.old }
         ensures seat { seat.new ≡ seat.old }
-        ensures note { result ≡ new_seat self.now.locks 0 (others (calls seat.old.seen)) }
+        ensures note { result ≡ new_seat self.now.locks 0 (others (calls seat.old.seen)) seat.old.also }
     {
         Note {
             seat: self.locks.split::<NoPart>(seat),
@@ -93,7 +93,7 @@ impl Table {
     pub fn learn(&self, seat: &mut Seat, note: Note)
         requires seat { IsSeatOf self.now.locks seat.old }
         requires note { IsSeatOf self.now.locks note }
-        ensures seat { seat.new ≡ record seat.old { seen = merged seat.old.seen note.seen } }
+        ensures seat { seat.new ≡ record seat.old { seen = merged seat.old.seen note.seen; also = seat.old.also ++ (note.also ++ calls note.seen ∷ []) } }
         ensures own { draws_of seat.new.seen ≡ draws_of seat.old.seen }
         ensures behind { (length (calls seat.old.seen) ≤ length (calls seat.new.seen)) × (length (calls note.seen) ≤ length (calls seat.new.seen)) }
     {

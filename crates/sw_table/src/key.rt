@@ -3,7 +3,7 @@ ghost use Rattle.std.specs.Prelude.{◌≡◌, None, Some};
 ghost use Rattle.std.specs.Option.{option_map};
 ghost use Rattle.sw_table_laws.specs.Laws.{key_of};
 
-use sw_data::Call;
+use sw_base::Call;
 
 /// The key of a call, if it has one.
 pub fn key_of(call: &Call) -> Option<&[u8]>

@@ -3,13 +3,15 @@ ghost use Rattle.std.specs.Prelude.{◌≡◌, ◌+◌, ◌-◌, ◌<◌, [], If
 
 use std::alloc::Global;
 use std::marker::Model;
-use sw_data::OutOfMemory;
+use sw_base::OutOfMemory;
 use sw_row::Row;
 
-/// The spare rows, each in a box. Contracts see how many they are, and how many there is room for.
+/// The spare rows, each in a box. Contracts see how many they are, how many there is room for, and how many calls the Table may
+/// make.
 #[derive(Drop)]
 pub struct Pool {
     spare: Box<Vec<Box<Row>>>,
+    last_call: u64,
 }
 
 impl Model for Pool {
@@ -20,15 +22,15 @@ impl Model for Pool {
     ghost use Rattle.std.specs.Prelude.{length, vec_capacity};
     ghost use Rattle.sw_table.specs.Rows.{AllAlone};
 
-    ghost view = { λ p. record { spare = length p.spare.value.items; room = vec_capacity p.spare.value } };
+    ghost view = { λ p. record { spare = length p.spare.value.items; room = vec_capacity p.spare.value; last_call = p.last_call } };
 
     ghost invariant = { λ p. AllAlone p.spare.value.items };
 }
 
 impl Pool {
-    /// A pool of so many rows, all of them spare.
-    pub(crate) fn make(alloc: Global, rows: usize) -> Result<Pool, OutOfMemory>
-        ensures { IfOk result (λ p. p ≡ record { spare = rows; room = rows }) }
+    /// A pool of so many rows, all of them spare, of a Table that may make so many calls.
+    pub(crate) fn make(alloc: Global, rows: usize, last_call: u64) -> Result<Pool, OutOfMemory>
+        ensures { IfOk result (λ p. p ≡ record { spare = rows; room = rows; last_call = last_call }) }
     {
         let mut spare = Vec::with_capacity(alloc, rows)?;
         for _ in 0..rows {
@@ -36,6 +38,7 @@ impl Pool {
         }
         Ok(Pool {
             spare: Box::new(alloc, spare)?,
+            last_call,
         })
     }
 

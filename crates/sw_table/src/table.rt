@@ -6,8 +6,8 @@ ghost use Rattle.sw_rowlock.specs.Seats.{all_parts};
 ghost use Rattle.sw_table_laws.specs.Table.{bucket};
 ghost use Rattle.sw_table_laws.specs.Laws.{key_of};
 ghost use Rattle.sw_table_join.specs.Calls.{call_row};
-ghost use Rattle.sw_table.specs.Tables.{IsReady, call_on};
-ghost use Rattle.sw_table.specs.Answers.{Answered, Refused};
+ghost use Rattle.sw_table_join.specs.Tables.{IsReady, call_on};
+ghost use Rattle.sw_table_join.specs.Answers.{Answered, Refused};
 
 use crate::bucket::Bucket;
 use crate::calls::{Making, Of, TableCalls};
@@ -18,8 +18,8 @@ use crossbeam_utils::Backoff;
 use std::marker::{Brand, Model};
 use std::sync::Wait;
 use sw_column::{RowBuf, Schema, hash};
-use sw_data::{Call, CallFault, Reply, WordId};
-use sw_ports::Placed;
+use sw_base::{Call, CallFault, Reply, WordId};
+use sw_port_shelf::Placed;
 use sw_rowlock::{Change, DrawFault, Drawn, RowLocks};
 
 /// The right to call a Table. It has no bytes.
@@ -43,7 +43,7 @@ pub struct Table {
 }
 
 impl Model for Table {
-    ghost use Rattle.sw_table.specs.Tables.{SharedNow, IsShared};
+    ghost use Rattle.sw_table_join.specs.Tables.{SharedNow, IsShared};
 
     ghost Value = { SharedNow };
 
@@ -54,7 +54,10 @@ impl Model for Table {
 
     ghost view = { λ t. record { columns = t.schema; size = t.size; percent = t.percent; last_call = t.last_call; locks = t.locks } };
 
-    ghost invariant = { λ t. IsShared (record { columns = t.schema; size = t.size; percent = t.percent; last_call = t.last_call; locks = t.locks }) t.blank };
+    ghost use Rattle.std.specs.Prelude.{◌≡◌};
+    ghost use Rattle.sw_column.specs.Values.{blank};
+
+    ghost invariant = { λ t. IsShared (record { columns = t.schema; size = t.size; percent = t.percent; last_call = t.last_call; locks = t.locks }) × (t.blank ≡ blank t.schema) };
 }
 
 fn refused(fault: DrawFault) -> CallFault {
@@ -80,7 +83,7 @@ impl Table {
         requires row { HasKinds self.now.columns row.old }
         ensures seat { IsReady self.now seat.old.parts seat.new }
         ensures call { MatchResult result
-            (λ placed. Answered self.now seat.old seat.new call.now row.old row.new placed)
+            (λ placed. Answered self.now seat.old seat.new call.now row.old row.new placed.at placed.reply)
             (λ fault. Refused self.now seat.old seat.new call.now row.old row.new fault) }
         ensures kinds { HasKinds self.now.columns row.new }
     {

@@ -1,7 +1,7 @@
 //! What a call comes to in its bucket, told before its place is drawn.
 use crate::bucket::Bucket;
 use sw_column::{Schema, fits};
-use sw_data::{Call, Reply};
+use sw_base::{Call, Reply};
 use sw_row::offset;
 use sw_rowlock::Change;
 

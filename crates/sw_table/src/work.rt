@@ -4,7 +4,7 @@ use crate::key::key_of;
 use crate::pool::Pool;
 use crate::turn::Turn;
 use sw_column::{RowBuf, Schema};
-use sw_data::{Call, Pairs, Reply, Value};
+use sw_base::{Call, Pairs, Reply, Value};
 use sw_row::{Row, offset};
 
 impl Bucket {

@@ -8,7 +8,7 @@ use Rattle.std.specs.FinMap as map
 use Rattle.std.specs.FinMap.{len-empty}
 use Rattle.std.specs.Ordering.{nat_cmp}
 use Rattle.std.specs.Cmp.Lexicographic.{slice_cmp}
-use Rattle.sw_data.specs.declared.table.Value.{Value}
+use Rattle.sw_base.specs.declared.table.Value.{Value}
 use Rattle.sw_table_laws.specs.Table.{Step}
 use Rattle.sw_table_laws.specs.Buckets.{BucketNow, PoolNow, spare_in, bucket_step, asks_pool, pool_left}
 use Rattle.sw_table_laws.proofs.BucketBounds.{Near, near, none_moved, within_spare}

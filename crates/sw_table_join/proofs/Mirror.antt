@@ -10,10 +10,10 @@ use Rattle.std.specs.FinMap as map
 use Rattle.std.specs.FinMap.{len-empty}
 use Rattle.std.specs.Ordering.{nat_cmp}
 use Rattle.std.specs.Cmp.Lexicographic.{slice_cmp}
-use Rattle.sw_data.specs.declared.table.Value.{Value}
-use Rattle.sw_data.specs.declared.table.Call.{Call}
-use Rattle.sw_data.specs.declared.table.Reply.TheVariants as replies
-use Rattle.sw_data.specs.declared.table.Call.TheVariants.{Set, Get, Exist, Del, Incr, Decr, Count}
+use Rattle.sw_base.specs.declared.table.Value.{Value}
+use Rattle.sw_base.specs.declared.table.Call.{Call}
+use Rattle.sw_base.specs.declared.table.Reply.TheVariants as replies
+use Rattle.sw_base.specs.declared.table.Call.TheVariants.{Set, Get, Exist, Del, Incr, Decr, Count}
 use Rattle.sw_column.specs.declared.column.Column.{Column}
 use Rattle.sw_column.specs.Hash.{hash}
 use Rattle.sw_column.specs.Fit.{call_fault}
@@ -183,19 +183,19 @@ columns_in : Option BucketNow → List Column → List Column
 columns_in None d = d
 columns_in (Some b) d = b.columns
 
-same_call : (t : Shape) (start : Contents BucketNow PoolNow) (q : TableCall) → Starts t start → IsFor start q → q ≡ call_of t q.call
+pub same_call : (t : Shape) (last_call : ℕ) (start : Contents BucketNow PoolNow) (at : ℕ) (q : TableCall) → Starts t last_call start → IsFor start at q → q ≡ call_of t q.call
 unfolding columns_in
-same_call t start q st f =
+same_call t last_call start at q st f =
     let rows : replicate q.size (empty_bucket q.columns) ≡ replicate t.size (empty_bucket t.columns) = sym f.of ∙ st.0 in
     let size : q.size ≡ t.size = sym (length-replicate q.size (empty_bucket q.columns)) ∙ ap (λ (l : List BucketNow). length l) rows ∙ length-replicate t.size (empty_bucket t.columns) in
     let first : Some (empty_bucket q.columns) ≡ Some (empty_bucket t.columns) = sym (get_replicate q.size 0 (empty_bucket q.columns) f.some) ∙ ap (λ (l : List BucketNow). slice_get l 0) rows ∙ get_replicate t.size 0 (empty_bucket t.columns) st.3 in
     let columns : q.columns ≡ t.columns = ap (λ (o : Option BucketNow). columns_in o t.columns) first in
     λ i. record { columns = columns i; size = size i; call = q.call }
 
-pub goes : (t : Shape) (s : State) (start c : Contents BucketNow PoolNow) (q : TableCall) → Starts t start → IsFor start q → Mirrors t s c
+pub goes : (t : Shape) (s : State) (last_call : ℕ) (start c : Contents BucketNow PoolNow) (at : ℕ) (q : TableCall) → Starts t last_call start → IsFor start at q → Mirrors t s c
     → Goes t s q.call (effect call_row call_asks call_does q c) (done call_row call_asks call_does q c).reply
-goes t s start c q st f m =
-    subst (λ (x : TableCall). Goes t s q.call (effect call_row call_asks call_does x c) (done call_row call_asks call_does x c).reply) (sym (same_call t start q st f))
+goes t s last_call start c at q st f m =
+    subst (λ (x : TableCall). Goes t s q.call (effect call_row call_asks call_does x c) (done call_row call_asks call_does x c).reply) (sym (same_call t last_call start at q st f))
     (goes_at t s q.call (key_of q.call) c refl st.3 m)
 
 -- ---- histories
@@ -204,21 +204,21 @@ record Follows (t : Shape) (s : State) (c : Contents BucketNow PoolNow) (qs : Li
   legal : LegalFrom t s (history_from t s qs)
   left : Mirrors t (left_by t s (history_from t s qs)) (calls.left_by call_row call_asks call_does c qs)
 
-follows : (t : Shape) (s : State) (start c : Contents BucketNow PoolNow) (qs : List TableCall) → Starts t start → Each (IsFor start) qs → Mirrors t s c → Follows t s c qs
+follows : (t : Shape) (s : State) (last_call : ℕ) (start c : Contents BucketNow PoolNow) (n : ℕ) (qs : List TableCall) → Starts t last_call start → Each (IsFor start) n qs → Mirrors t s c → Follows t s c qs
 unfolding history_from LegalFrom left_by
-follows t s start c [] st each m = record { legal = tt; left = m }
-follows t s start c (q ∷ qs) st each m =
-    let g = goes t s start c q st each.0 m in
-    let rest = follows t (TStep t s q.call).state start (effect call_row call_asks call_does q c) qs st each.1 g.left in
-    let fit : call_fault t.columns q.call ≡ None = ap (λ (x : TableCall). call_fault x.columns q.call) (sym (same_call t start q st each.0)) ∙ each.0.fit in
+follows t s last_call start c n [] st each m = record { legal = tt; left = m }
+follows t s last_call start c n (q ∷ qs) st each m =
+    let g = goes t s last_call start c n q st each.0 m in
+    let rest = follows t (TStep t s q.call).state last_call start (effect call_row call_asks call_does q c) (suc n) qs st each.1 g.left in
+    let fit : call_fault t.columns q.call ≡ None = ap (λ (x : TableCall). call_fault x.columns q.call) (sym (same_call t last_call start n q st each.0)) ∙ each.0.fit in
     record { legal = (fit, refl, refl, rest.legal); left = rest.left }
 
 same_part : (size b : ℕ) → part size map.empty b ≡ map.empty
 same_part size b = no_rows_in size b
 
-pub mirrors_start : (t : Shape) (start : Contents BucketNow PoolNow) → Starts t start → Mirrors t map.empty start
+pub mirrors_start : (t : Shape) (last_call : ℕ) (start : Contents BucketNow PoolNow) → Starts t last_call start → Mirrors t map.empty start
 unfolding sum_below
-mirrors_start t start st =
+mirrors_start t last_call start st =
     let none : used t.size map.empty ≡ 0 = sum_zero (λ b. map.len (part t.size map.empty b) - 1) t.size (λ b. ap (λ n. n - 1) (no_len t.size b)) in
     let pool : start.pool.spare ≡ t.pool = ap (λ (p : PoolNow). p.spare) st.1 in
     record {
@@ -229,10 +229,19 @@ mirrors_start t start st =
       count = st.2 ∙ sym (len-empty (slice_cmp nat_cmp) (List Value));
     }
 
-pub is_history : (t : Shape) (start : Contents BucketNow PoolNow) (qs : List TableCall) → Starts t start → Each (IsFor start) qs → IsHistory t start qs
-is_history t start qs st each = let f = follows t map.empty start start qs st each (mirrors_start t start st) in record { legal = f.legal; left = f.left }
+-- the last call of a history has a place below the end
+places : (start : Contents BucketNow PoolNow) (n : ℕ) (qs : List TableCall) → n ≤ start.pool.last_call → Each (IsFor start) n qs → n + length qs ≤ start.pool.last_call
+places start n [] le each = omega (arith, le)
+places start n (q ∷ qs) le each = let r = each.0.room in let rest = places start (suc n) qs (omega (arith, r)) each.1 in omega (arith, rest)
+
+pub is_history : (t : Shape) (last_call : ℕ) (start : Contents BucketNow PoolNow) (qs : List TableCall) → Starts t last_call start → Each (IsFor start) 0 qs → IsHistory t last_call start qs
+is_history t last_call start qs st each =
+    let f = follows t map.empty last_call start start 0 qs st each (mirrors_start t last_call start st) in
+    let most : start.pool.last_call ≡ last_call = ap (λ (p : PoolNow). p.last_call) st.1 in
+    let few = places start 0 qs (omega arith) each in
+    record { legal = f.legal; room = omega (arith, few, most); left = f.left }
 
 pub histories_are_legal : HistoriesAreLegal
-histories_are_legal t start qs q st each fits =
-    let h = is_history t start qs st each in
-    (h, (goes t (after t (history t qs)) start (calls.left_by call_row call_asks call_does start qs) q st fits h.left).told)
+histories_are_legal t last_call start qs at q st each fits =
+    let h = is_history t last_call start qs st each in
+    (h, (goes t (after t (history t qs)) last_call start (calls.left_by call_row call_asks call_does start qs) at q st fits h.left).told)

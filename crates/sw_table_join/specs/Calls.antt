@@ -1,9 +1,9 @@
 -- What a call does to what its seat holds: the bucket of its key, and the spare rows of the pool where it asks for them.
 use Rattle.std.specs.Prelude.{◌≡◌, ℕ, ◌≤◌, ◌<◌, List, [], replicate, Option, Some, None, Bool, false, nat_lt, if◌then◌else◌}
 use Rattle.std.specs.FinMap as map
-use Rattle.sw_data.specs.declared.table.Value.{Value}
-use Rattle.sw_data.specs.declared.table.Reply.{Reply}
-use Rattle.sw_data.specs.declared.table.Reply.TheVariants as replies
+use Rattle.sw_base.specs.declared.table.Value.{Value}
+use Rattle.sw_base.specs.declared.table.Reply.{Reply}
+use Rattle.sw_base.specs.declared.table.Reply.TheVariants as replies
 use Rattle.sw_column.specs.declared.column.Column.{Column}
 use Rattle.sw_column.specs.Columns.{IsSchema}
 use Rattle.sw_column.specs.Fit.{call_fault}
@@ -63,9 +63,10 @@ pub record IsEmptyTable (rows : List BucketNow) (pool : PoolNow) : Type 0 where
   pub few : size ≤ 524288
   pub spare : pool.spare ≤ 524288
 
--- a call that may be made on a Table that started so: it has its columns and size, and fits the columns
-pub record IsFor (start : Contents BucketNow PoolNow) (q : TableCall) : Type 0 where
+-- a call that may have the place on a Table that started so: it has its columns and size, fits the columns, and there is such a place
+pub record IsFor (start : Contents BucketNow PoolNow) (at : ℕ) (q : TableCall) : Type 0 where
   pub of : start.rows ≡ replicate q.size (empty_bucket q.columns)
   pub some : 0 < q.size
   pub schema : IsSchema q.columns
   pub fit : call_fault q.columns q.call ≡ None
+  pub room : at < start.pool.last_call

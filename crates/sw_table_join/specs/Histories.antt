@@ -16,9 +16,9 @@ history_from t s (q ∷ qs) = record { call = q.call; reply = (TStep t s q.call)
 abbrev pub history : Shape → List TableCall → List Entry
 history t qs = history_from t map.empty qs
 
--- the shape of a Table that started so
-abbrev pub Starts : Shape → Contents BucketNow PoolNow → Type 0
-Starts t start = (start.rows ≡ replicate t.size (empty_bucket t.columns)) × (start.pool ≡ record { spare = t.pool; room = t.pool }) × (start.count ≡ 0) × (0 < t.size)
+-- what a Table of this shape starts with, where so many calls may be made
+abbrev pub Starts : Shape → ℕ → Contents BucketNow PoolNow → Type 0
+Starts t last_call start = (start.rows ≡ replicate t.size (empty_bucket t.columns)) × (start.pool ≡ record { spare = t.pool; room = t.pool; last_call = last_call }) × (start.count ≡ 0) × (0 < t.size)
 
 -- buckets, spare rows and number of rows are those of a state of the Table
 pub record Mirrors (t : Shape) (s : State) (c : Contents BucketNow PoolNow) : Type 0 where

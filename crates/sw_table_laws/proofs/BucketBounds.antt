@@ -5,9 +5,9 @@ use Rattle.std.specs.Prelude.{nat_eq, nat_lt, nat_le, ℤ, is_some}
 use Rattle.std.specs.Cmp.Lexicographic.{nat_list_cmp_total}
 use Rattle.std.specs.FinMap as map
 use Rattle.std.specs.FinMap.{len-insert, len-remove}
-use Rattle.sw_data.specs.declared.table.Value.{Value}
-use Rattle.sw_data.specs.declared.table.Call.{Call}
-use Rattle.sw_data.specs.declared.table.Call.TheVariants.{Set, Get, Exist, Del, Incr, Decr, Count}
+use Rattle.sw_base.specs.declared.table.Value.{Value}
+use Rattle.sw_base.specs.declared.table.Call.{Call}
+use Rattle.sw_base.specs.declared.table.Call.TheVariants.{Set, Get, Exist, Del, Incr, Decr, Count}
 use Rattle.sw_column.specs.declared.column.Column.{Column}
 use Rattle.sw_table_laws.specs.Table.{State, set_step, get_step, del_step, add_step}
 use Rattle.sw_table_laws.specs.Buckets.{may_put, bucket_step, write_asks, del_asks, asks_pool}

@@ -7,9 +7,9 @@ use Rattle.std.specs.FinMap as map
 use Rattle.std.specs.FinMap.{len-empty, len-insert, len-remove}
 use Rattle.std.specs.Ordering.{nat_cmp}
 use Rattle.std.specs.Cmp.Lexicographic.{slice_cmp}
-use Rattle.sw_data.specs.declared.table.Value.{Value}
-use Rattle.sw_data.specs.declared.table.Call.{Call}
-use Rattle.sw_data.specs.declared.table.Call.TheVariants.{Set, Get, Exist, Del, Incr, Decr, Count}
+use Rattle.sw_base.specs.declared.table.Value.{Value}
+use Rattle.sw_base.specs.declared.table.Call.{Call}
+use Rattle.sw_base.specs.declared.table.Call.TheVariants.{Set, Get, Exist, Del, Incr, Decr, Count}
 use Rattle.sw_column.specs.Hash.{hash}
 use Rattle.sw_table_laws.specs.Table.{State, Shape, Entry, bucket, part, sum_below, used, may_write, set_step, get_step, del_step, add_step, TStep, write_needs_pool, del_needs_pool, needs_pool, left_by, after}
 use Rattle.sw_table_laws.specs.Laws.{key_of, CountFollows, PoolFollows, PoolStays, RowsBounded}

@@ -3,11 +3,11 @@ use Rattle.std.proofs.Common.{◌≡◌, ℕ, zero, suc, ◌-◌, Bool, true, fa
 use Rattle.std.proofs.lemmas.Bool.Decides.{nat_tests}
 use Rattle.std.specs.Prelude.{nat_eq, nat_lt, nat_le, ℤ, ◌+ℤ◌, ◌-ℤ◌, unwrap_or, is_some}
 use Rattle.std.specs.FinMap as map
-use Rattle.sw_data.specs.declared.table.Value.{Value}
-use Rattle.sw_data.specs.declared.table.Value.TheVariants as values
-use Rattle.sw_data.specs.declared.table.Call.{Call}
-use Rattle.sw_data.specs.declared.table.Call.TheVariants.{Set, Get, Exist, Del, Incr, Decr, Count}
-use Rattle.sw_data.specs.declared.table.Reply.TheVariants.{Yes, No}
+use Rattle.sw_base.specs.declared.table.Value.{Value}
+use Rattle.sw_base.specs.declared.table.Value.TheVariants as values
+use Rattle.sw_base.specs.declared.table.Call.{Call}
+use Rattle.sw_base.specs.declared.table.Call.TheVariants.{Set, Get, Exist, Del, Incr, Decr, Count}
+use Rattle.sw_base.specs.declared.table.Reply.TheVariants.{Yes, No}
 use Rattle.sw_column.specs.Fit.{fits}
 use Rattle.sw_column.specs.Values.{blank}
 use Rattle.sw_table_laws.specs.Rows.{with_value, with_pairs, number_of, size_of}

@@ -2,13 +2,13 @@ use Rattle.std.proofs.Common.{◌≡◌, ℕ, Bool, true, false, cond, ◌||◌,
 use Rattle.std.specs.Prelude.{ℤ, ◌+ℤ◌, unwrap_or, is_some}
 use Rattle.std.specs.Str.{bytes_eq}
 use Rattle.std.specs.FinMap as map
-use Rattle.sw_data.specs.declared.table.Value.{Value}
-use Rattle.sw_data.specs.declared.table.Value.TheVariants as values
-use Rattle.sw_data.specs.declared.table.Call.TheVariants.{Set, Get, Exist, Del, Incr, Decr, Count}
-use Rattle.sw_data.specs.declared.table.CallFault.{CallFault}
-use Rattle.sw_data.specs.declared.table.CallFault.TheVariants.{BadKey}
-use Rattle.sw_data.specs.declared.table.Reply.TheVariants as replies
-use Rattle.sw_data.specs.declared.table.Reply.TheVariants.{Stored, Full}
+use Rattle.sw_base.specs.declared.table.Value.{Value}
+use Rattle.sw_base.specs.declared.table.Value.TheVariants as values
+use Rattle.sw_base.specs.declared.table.Call.TheVariants.{Set, Get, Exist, Del, Incr, Decr, Count}
+use Rattle.sw_base.specs.declared.table.CallFault.{CallFault}
+use Rattle.sw_base.specs.declared.table.CallFault.TheVariants.{BadKey}
+use Rattle.sw_base.specs.declared.table.Reply.TheVariants as replies
+use Rattle.sw_base.specs.declared.table.Reply.TheVariants.{Stored, Full}
 use Rattle.sw_column.specs.declared.column.Column.{Column}
 use Rattle.sw_column.specs.Columns.{column_of, IsSchema}
 use Rattle.sw_column.specs.Fit.{fits, is_key, pairs_fault, counter_fault}

@@ -5,7 +5,7 @@ use Rattle.std.specs.Cmp.Lexicographic.{slice_cmp, nat_list_cmp_total, same_text
 use Rattle.std.specs.Str.{bytes_eq}
 use Rattle.std.specs.FinMap as map
 use Rattle.std.specs.FinMap.{get-insert, get-remove, get-retain_keys, same_map, nat_cmp-IsAntisymmetric, slice_cmp-IsAntisymmetric}
-use Rattle.sw_data.specs.declared.table.Value.{Value}
+use Rattle.sw_base.specs.declared.table.Value.{Value}
 use Rattle.sw_table_laws.specs.Table.{State, bucket, part}
 
 abbrev Row : Type 0

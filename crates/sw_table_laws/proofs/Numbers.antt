@@ -4,8 +4,8 @@ use Rattle.std.specs.Prelude.{slice_get, nat_lt, option_and_then, IsTrue, ℤ, p
 use Rattle.std.specs.List.{list_all}
 use Rattle.std.proofs.Math.Pow.{pow_mono}
 use Rattle.std.proofs.lemmas.Bool.Decides.{nat_tests}
-use Rattle.sw_data.specs.declared.table.Value.{Value}
-use Rattle.sw_data.specs.declared.table.Reply.TheVariants.{Range}
+use Rattle.sw_base.specs.declared.table.Value.{Value}
+use Rattle.sw_base.specs.declared.table.Reply.TheVariants.{Range}
 use Rattle.sw_column.specs.declared.column.Column.{Column}
 use Rattle.sw_column.specs.declared.column.Kind.{Kind}
 use Rattle.sw_column.specs.declared.column.Kind.TheVariants as kinds

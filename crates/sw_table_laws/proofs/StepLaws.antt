@@ -2,9 +2,9 @@ use Rattle.std.proofs.Common.{◌≡◌, ◌≢◌, ℕ, ◌<◌, ◌≤◌, Boo
 use Rattle.std.proofs.lemmas.Bool.Decides.{nat_tests}
 use Rattle.std.specs.Prelude.{nat_eq, nat_lt, ℤ, is_some}
 use Rattle.std.specs.FinMap as map
-use Rattle.sw_data.specs.declared.table.Value.{Value}
-use Rattle.sw_data.specs.declared.table.Call.TheVariants.{Set, Get, Exist, Del, Incr, Decr, Count}
-use Rattle.sw_data.specs.declared.table.Reply.TheVariants.{Full, Yes, No}
+use Rattle.sw_base.specs.declared.table.Value.{Value}
+use Rattle.sw_base.specs.declared.table.Call.TheVariants.{Set, Get, Exist, Del, Incr, Decr, Count}
+use Rattle.sw_base.specs.declared.table.Reply.TheVariants.{Full, Yes, No}
 use Rattle.sw_table_laws.specs.Table.{State, Shape, bucket, part, used, may_write, set_step, get_step, del_step, add_step}
 use Rattle.sw_table_laws.specs.Laws.{KeepsOthers, FullIsFull, CountCounts, OtherBuckets}
 use Rattle.sw_table_laws.proofs.Maps.{get_other, removed_other, part_beside, part_left}

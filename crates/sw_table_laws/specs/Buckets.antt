@@ -1,12 +1,12 @@
 -- What a call does to the bucket of its key, by the rows of that bucket and the spare rows of the pool alone.
 use Rattle.std.specs.Prelude.{ℕ, ◌+◌, ◌-◌, List, Option, Some, None, Bool, false, not, ◌&&◌, ◌||◌, nat_eq, nat_lt, nat_le, unwrap_or, if◌then◌else◌, ℤ, ◌+ℤ◌, ◌-ℤ◌}
 use Rattle.std.specs.FinMap as map
-use Rattle.sw_data.specs.declared.table.Value.{Value}
-use Rattle.sw_data.specs.declared.table.Value.TheVariants as values
-use Rattle.sw_data.specs.declared.table.Call.{Call}
-use Rattle.sw_data.specs.declared.table.Call.TheVariants.{Set, Get, Exist, Del, Incr, Decr, Count}
-use Rattle.sw_data.specs.declared.table.Reply.TheVariants as replies
-use Rattle.sw_data.specs.declared.table.Reply.TheVariants.{Yes, No}
+use Rattle.sw_base.specs.declared.table.Value.{Value}
+use Rattle.sw_base.specs.declared.table.Value.TheVariants as values
+use Rattle.sw_base.specs.declared.table.Call.{Call}
+use Rattle.sw_base.specs.declared.table.Call.TheVariants.{Set, Get, Exist, Del, Incr, Decr, Count}
+use Rattle.sw_base.specs.declared.table.Reply.TheVariants as replies
+use Rattle.sw_base.specs.declared.table.Reply.TheVariants.{Yes, No}
 use Rattle.sw_column.specs.declared.column.Column.{Column}
 use Rattle.sw_column.specs.Fit.{fits}
 use Rattle.sw_column.specs.Values.{blank}
@@ -18,10 +18,11 @@ pub record BucketNow : Type 0 where
   pub columns : List Column
   pub rows : State
 
--- the pool: how many rows are spare, and how many it has room for
+-- the pool: how many rows are spare, and how many it has room for; it also keeps how many calls its Table may make
 pub record PoolNow : Type 0 where
   pub spare : ℕ
   pub room : ℕ
+  pub last_call : ℕ
 
 -- the spare rows of a pool that was asked
 abbrev pub spare_in : Option PoolNow → Option ℕ

@@ -1,11 +1,11 @@
 use Rattle.std.specs.Prelude.{◌≡◌, ◌≢◌, ℕ, ◌+◌, ◌-◌, ◌*◌, ◌^◌, ◌≤◌, ◌<◌, List, [], ◌∷◌, Option, Some, None, Bool, true, false, IsSome, nat_lt, ℤ, ◌+ℤ◌}
 use Rattle.std.specs.FinMap as map
-use Rattle.sw_data.specs.declared.table.Value.{Value}
-use Rattle.sw_data.specs.declared.table.Value.TheVariants as values
-use Rattle.sw_data.specs.declared.table.Call.{Call}
-use Rattle.sw_data.specs.declared.table.Call.TheVariants.{Set, Get, Exist, Del, Incr, Decr, Count}
-use Rattle.sw_data.specs.declared.table.Reply.TheVariants as replies
-use Rattle.sw_data.specs.declared.table.Reply.TheVariants.{Stored, Full}
+use Rattle.sw_base.specs.declared.table.Value.{Value}
+use Rattle.sw_base.specs.declared.table.Value.TheVariants as values
+use Rattle.sw_base.specs.declared.table.Call.{Call}
+use Rattle.sw_base.specs.declared.table.Call.TheVariants.{Set, Get, Exist, Del, Incr, Decr, Count}
+use Rattle.sw_base.specs.declared.table.Reply.TheVariants as replies
+use Rattle.sw_base.specs.declared.table.Reply.TheVariants.{Stored, Full}
 use Rattle.sw_column.specs.Columns.{place, IsSchema}
 use Rattle.sw_column.specs.Values.{IsRow}
 use Rattle.sw_table_laws.specs.Rows.{size_of}

@@ -1,4 +1,4 @@
-// IPv4 addresses, as four decimal numbers with dots.
+//! IPv4 addresses, as four decimal numbers with dots.
 
 ghost use Rattle.std.specs.Prelude.{◌≡◌, ◌↔◌, ℕ, ◌<◌, ◌+◌, ◌*◌, ◌++◌, List, Some, codes, OnOk, OnErr, string_bytes};
 ghost use Rattle.std.specs.Fmt.{decimal};

@@ -1,4 +1,4 @@
-// Bytes as pairs of lower-case hexadecimal digits.
+//! Bytes as pairs of lower-case hexadecimal digits.
 
 ghost use Rattle.std.specs.Prelude.{◌≡◌, ◌↔◌, ℕ, List, ◌<◌, [], ◌∷◌, ◌++◌, length, Option, Some, None, IfOk, OnOk, OnErr, string_bytes};
 ghost use Rattle.std.specs.List.{AllByRecursion};

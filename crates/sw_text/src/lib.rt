@@ -1,5 +1,5 @@
-// The parts that every text of this server is made of: decimal numbers, bytes as hexadecimal digits, addresses, lines and
-// words. Stands below everything that reads or prints a text, and knows nothing of what the texts mean.
+//! The parts that every text of this server is made of: decimal numbers, bytes as hexadecimal digits, addresses, lines and
+//! words. Stands below everything that reads or prints a text, and knows nothing of what the texts mean.
 #![tactic(auto)]
 
 mod addresses;

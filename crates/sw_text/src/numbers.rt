@@ -1,4 +1,4 @@
-// Decimal numbers: without a sign up to 64 bits, and with one.
+//! Decimal numbers: without a sign up to 64 bits, and with one.
 
 ghost use Rattle.std.specs.Prelude.{◌≡◌, ◌↔◌, ℕ, ◌<◌, ◌≤◌, ◌+◌, List, [], ◌∷◌, Some, None, IfSome, ◌++◌, OnOk, OnErr, ℤ, string_bytes};
 ghost use Rattle.std.specs.Fmt.{decimal, signed_decimal};

@@ -1,4 +1,4 @@
-// A text cut at a separator: its lines, and the words of a line.
+//! A text cut at a separator: its lines, and the words of a line.
 
 ghost use Rattle.std.specs.Prelude.{◌≡◌, ℕ, ◌≤◌, ◌<◌, ◌+◌, List, [], ◌∷◌, length, take, drop, Option, Some, None, IfSome, IfNone};
 ghost use Rattle.std.specs.Option.{option_copied};

@@ -1,4 +1,4 @@
-// Texts at the edges of what they may be, and one printed text of each kind.
+//! Texts at the edges of what they may be, and one printed text of each kind.
 
 use super::*;
 use std::test::Fail;

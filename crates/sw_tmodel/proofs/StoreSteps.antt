@@ -5,7 +5,7 @@ use Rattle.std.specs.Cmp.Lexicographic.{slice_cmp, texts_ties, nat_list_cmp_tota
 use Rattle.std.specs.FinMap as map
 use Rattle.std.specs.FinMap.{find, get-from_entries, from_entries_push, len-empty, len-insert, nat_cmp-IsAntisymmetric, slice_cmp-IsAntisymmetric}
 use Rattle.std.specs.Str.{bytes_eq}
-use Rattle.sw_data.specs.declared.table.Value.{Value}
+use Rattle.sw_base.specs.declared.table.Value.{Value}
 use Rattle.sw_tmodel.specs.PlainRows.{key_at, row_at}
 use Rattle.sw_tmodel.specs.Store.{Distinct, state_of}
 use Rattle.sw_table_laws.proofs.Maps.{eq_of, eq_self, apart, same_state, get_inserted, get_removed}

@@ -8,7 +8,7 @@ use Rattle.std.proofs.lemmas.List.Sums.{sum_by-set, sum_by_more, sum_by-cons}
 use Rattle.std.proofs.lemmas.List.Folds.{sum_by-replicate}
 use Rattle.std.proofs.lemmas.List.{take_all, length-replicate, get_or-replicate}
 use Rattle.std.proofs.lemmas.Bool.Decides.{nat_tests}
-use Rattle.sw_data.specs.declared.table.Value.{Value}
+use Rattle.sw_base.specs.declared.table.Value.{Value}
 use Rattle.sw_column.specs.declared.column.Column.{Column}
 use Rattle.sw_table_laws.specs.Table.{State, bucket, part, used, sum_below, has_room}
 use Rattle.sw_tmodel.specs.PlainRows.{IsAt, key_at, row_at, with_row}

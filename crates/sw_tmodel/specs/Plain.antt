@@ -1,12 +1,12 @@
 -- The plain Table: what contracts see of it, and what a call answers.
 use Rattle.std.specs.Prelude.{◌≡◌, ℕ, ◌+◌, List, Option, Some, None, Result, Ok, Err, nat_eq, if◌then◌else◌}
-use Rattle.sw_data.specs.declared.table.Value.{Value}
-use Rattle.sw_data.specs.declared.table.Call.{Call}
-use Rattle.sw_data.specs.declared.table.CallFault.{CallFault}
-use Rattle.sw_data.specs.declared.table.CallFault.TheVariants.{Spent}
+use Rattle.sw_base.specs.declared.table.Value.{Value}
+use Rattle.sw_base.specs.declared.table.Call.{Call}
+use Rattle.sw_base.specs.declared.table.CallFault.{CallFault}
+use Rattle.sw_base.specs.declared.table.CallFault.TheVariants.{Spent}
 use Rattle.sw_column.specs.declared.column.Column.{Column}
 use Rattle.sw_column.specs.Fit.{or_else, call_fault}
-use Rattle.sw_ports.specs.declared.shelf.Placed.{Placed}
+use Rattle.sw_port_shelf.specs.declared.shelf.Placed.{Placed}
 use Rattle.sw_table_laws.specs.Table.{State, Shape, TStep, shown}
 use Rattle.sw_table_laws.specs.Sizes.{pool_of}
 

@@ -1,12 +1,12 @@
 use Rattle.std.specs.Option.{option_map}
 use Rattle.std.specs.Prelude.{◌≡◌, ℕ, ◌≤◌, Option, Some, slice_get, slice_set, unwrap_or, List, [], ◌∷◌, map, Bool, true, false, IsTrue, nat_eq}
-use Rattle.sw_data.specs.declared.table.Value.{Value}
+use Rattle.sw_base.specs.declared.table.Value.{Value}
 use Rattle.sw_column.specs.declared.column.Column.{Column}
 use Rattle.sw_column.specs.declared.column.Kind.{Kind}
 use Rattle.sw_column.specs.declared.column.Kind.TheVariants as kinds
 use Rattle.sw_column.specs.declared.cell.Cell.{Cell}
 use Rattle.sw_column.specs.declared.cell.Cell.TheVariants.{Int, Text}
-use Rattle.sw_data.specs.declared.table.Value.TheVariants as values
+use Rattle.sw_base.specs.declared.table.Value.TheVariants as values
 use Rattle.sw_column.specs.Cells.{cell_value, with_int, with_text, is_int, is_text}
 use Rattle.sw_tmodel.specs.declared.plain_row.PlainRow.{PlainRow}
 

@@ -1,6 +1,6 @@
 use Rattle.std.specs.Prelude.{◌≡◌, ℕ, ◌<◌, List, length, Option, Some, None, true, false}
 use Rattle.std.specs.FinMap as map
-use Rattle.sw_data.specs.declared.table.Value.{Value}
+use Rattle.sw_base.specs.declared.table.Value.{Value}
 use Rattle.sw_table_laws.specs.Table.{may_write, row_of}
 use Rattle.sw_tmodel.specs.PlainRows.{key_at, row_at}
 use Rattle.sw_tmodel.specs.Store.{Stored, state_of}

@@ -4,7 +4,7 @@ ghost use Rattle.sw_tmodel.specs.Store.{pooled};
 
 use std::alloc::Global;
 use std::marker::Model;
-use sw_data::OutOfMemory;
+use sw_base::OutOfMemory;
 
 /// How many rows each bucket has, and how many rows of the pool that takes.
 #[derive(Drop, Debug)]

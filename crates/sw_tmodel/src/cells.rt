@@ -1,6 +1,6 @@
 //! Writes into the places of one row.
 ghost use Rattle.std.specs.Prelude.{◌≡◌, ◌≤◌, ◌<◌, None, map, length, slice_get, slice_set};
-ghost use Rattle.sw_data.specs.declared.table.Value.TheVariants as values;
+ghost use Rattle.sw_base.specs.declared.table.Value.TheVariants as values;
 ghost use Rattle.sw_column.specs.Columns.{column_of};
 ghost use Rattle.sw_column.specs.Cells.{cell_value, blanked};
 ghost use Rattle.sw_column.specs.Fit.{pairs_fault, at_column};
@@ -9,8 +9,8 @@ ghost use Rattle.sw_table_laws.specs.Rows.{with_pairs, with_value, number_of, nu
 ghost use Rattle.sw_tmodel.specs.PlainRows.{AreCells, IsPlaceFor, cell_with};
 ghost use Rattle.std.specs.Prelude.{Some};
 
+use sw_base::{Pairs, Value};
 use sw_column::{Cell, RowBuf, Schema};
-use sw_data::{Pairs, Value};
 
 /// 0 and empty texts in all cells.
 pub fn clear(cells: &mut [Cell], schema: &Schema)

@@ -9,9 +9,9 @@ use crate::steps::step;
 use crate::store::Store;
 use std::alloc::Global;
 use std::marker::Model;
+use sw_base::{Call, CallFault, OutOfMemory};
 use sw_column::{RowBuf, Schema};
-use sw_data::{Call, CallFault, OutOfMemory};
-use sw_ports::{Placed, Shelf};
+use sw_port_shelf::{Placed, Shelf};
 
 /// The plain Table: its rows in a list, and what a call does with them by the definition.
 #[derive(Drop, Debug)]

@@ -12,8 +12,8 @@ ghost use Rattle.sw_tmodel.specs.PlainRows.{AreCells, IsShaped, IsAt, entry_of};
 
 use crate::cells::{fill, clear, number, put_pair, put_pairs, show};
 use std::alloc::Global;
+use sw_base::{OutOfMemory, Pairs, Value};
 use sw_column::{Cell, RowBuf, Schema, TextBuf};
-use sw_data::{OutOfMemory, Pairs, Value};
 
 /// A row of the plain Table: a key and a cell for each column, in places that hold any row of the columns.
 #[derive(Drop, Debug)]

@@ -3,7 +3,7 @@ ghost use Rattle.std.specs.Prelude.{◌≡◌, ℕ, ◌+◌, ◌≤◌, ◌<◌,
 ghost use Rattle.std.specs.Ordering.{nat_cmp};
 ghost use Rattle.std.specs.Cmp.Lexicographic.{slice_cmp};
 ghost use Rattle.std.specs.FinMap.{find};
-ghost use Rattle.sw_data.specs.declared.table.Value.TheVariants as values;
+ghost use Rattle.sw_base.specs.declared.table.Value.TheVariants as values;
 ghost use Rattle.sw_column.specs.Columns.{column_of};
 ghost use Rattle.sw_column.specs.Fit.{pairs_fault, at_column};
 ghost use Rattle.sw_column.specs.Values.{blank, HasKinds};
@@ -13,8 +13,8 @@ ghost use Rattle.sw_tmodel.specs.PlainRows.{IsAt, row_at, with_row};
 use crate::plain_row::{PlainRow, find_row, move_behind, spare_rows};
 use std::alloc::Global;
 use std::marker::Model;
+use sw_base::{OutOfMemory, Pairs, Value};
 use sw_column::{RowBuf, Schema};
-use sw_data::{OutOfMemory, Pairs, Value};
 
 /// The rows of a plain Table, in a list, with room for all that there may ever be. Behind the rows that are there stand
 /// spare ones, whose content means nothing.

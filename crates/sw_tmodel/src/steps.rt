@@ -1,7 +1,7 @@
-// What each call does to the rows, one function a kind of call.
+//! What each call does to the rows, one function a kind of call.
 ghost use Rattle.std.specs.Prelude.{◌≡◌, ℕ, List, ◌<◌, ◌≤◌, None, Some, true, false, IsTrue, length, IfSome, IfNone};
 ghost use Rattle.std.specs.FinMap as map;
-ghost use Rattle.sw_data.specs.declared.table.Value.{Value};
+ghost use Rattle.sw_base.specs.declared.table.Value.{Value};
 ghost use Rattle.sw_column.specs.Columns.{column_of, is_size};
 ghost use Rattle.sw_column.specs.Fit.{fits, pairs_fault, counter_fault, counter_kind, call_fault};
 ghost use Rattle.sw_column.specs.Values.{HasKinds};
@@ -13,8 +13,8 @@ ghost use Rattle.sw_tmodel.specs.Store.{state_of};
 ghost use Rattle.sw_tmodel.specs.Steps.{IsFound, IsPlace};
 
 use crate::store::Store;
+use sw_base::{Call, Pairs, Reply, Value};
 use sw_column::{Kind, RowBuf, fits};
-use sw_data::{Call, Pairs, Reply, Value};
 
 /// The place of a key's row to be written: the one that was found, or a new one where there is room.
 fn place(store: &mut Store, found: Option<usize>, key: &[u8]) -> Option<usize>

@@ -13,8 +13,8 @@ use crate::buckets::Buckets;
 use crate::rows::Rows;
 use std::alloc::Global;
 use std::marker::Model;
+use sw_base::{OutOfMemory, Pairs, Value};
 use sw_column::{RowBuf, Schema, hash};
-use sw_data::{OutOfMemory, Pairs, Value};
 
 /// The rows of a plain Table with the counts of its buckets. Contracts see the list of the rows, in which no key stands
 /// twice.

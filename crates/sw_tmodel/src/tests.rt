@@ -5,9 +5,9 @@ ghost use Rattle.sw_column.specs.Values.{HasKinds};
 use crate::Plain;
 use std::alloc::Global;
 use std::test::Fail;
+use sw_base::{Call, CallFault, Key, Name, Octets, OutOfMemory, Pairs, Reply, Value};
 use sw_column::{Cell, Kind, RowBuf, Schema};
-use sw_data::{Call, CallFault, Key, Name, Octets, OutOfMemory, Pairs, Reply, Value};
-use sw_ports::Placed;
+use sw_port_shelf::Placed;
 
 fn key(alloc: Global, text: &[u8]) -> Result<Key, OutOfMemory> {
     Ok(Key::of(Vec::from_slice(alloc, text)?))

@@ -1,4 +1,4 @@
-// What an input that was read whole is answered: a schedule is played, a trace is judged.
+//! What an input that was read whole is answered: a schedule is played, a trace is judged.
 
 ghost use Rattle.std.specs.Prelude.{◌≡◌, Ok, IfOk, string_bytes};
 ghost use Rattle.sw_top.specs.Answering.{Answers, AnswersTrace};
@@ -10,7 +10,7 @@ use crate::refusal::Refusal;
 use crate::words::Command;
 use std::alloc::Global;
 use sw_audit::{AuditFault, Verdict, audit, print};
-use sw_data::OutOfMemory;
+use sw_base::OutOfMemory;
 use sw_drill::{Drill, Pairs, read};
 use sw_settings::{Settings, SettingsFault, from_pairs};
 

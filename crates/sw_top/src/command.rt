@@ -1,4 +1,4 @@
-// The command that the words name: the source is read whole, what it says is done, and one text is written.
+//! The command that the words name: the source is read whole, what it says is done, and one text is written.
 
 ghost use Rattle.std.specs.Prelude.{Some};
 ghost use Rattle.sw_top.specs.Words.{command_of};

@@ -1,5 +1,5 @@
-// The program's commands, over any source and any sink: words in, a status out, and in between a schedule that is played in
-// the core, or a trace of the Table that is judged.
+//! The program's commands, over any source and any sink: words in, a status out, and in between a schedule that is played in
+//! the core, or a trace of the Table that is judged.
 #![tactic(auto)]
 
 mod answering;

@@ -1,4 +1,4 @@
-// A schedule is played: each line's steps are taken by the core, and the record of what happened is printed.
+//! A schedule is played: each line's steps are taken by the core, and the record of what happened is printed.
 
 ghost use Rattle.std.specs.Prelude.{◌≡◌, ℕ, ◌<◌, ◌≤◌, length, replicate, OnOk, IfOk, string_bytes};
 ghost use Rattle.sw_record.specs.declared.step.Step.TheVariants.{Turn};
@@ -6,7 +6,7 @@ ghost use Rattle.sw_drill.specs.Steps.{round, rounds, steps_of_line, steps_of};
 ghost use Rattle.sw_top.specs.Run.{stepped, played, fresh, account_text, drill_text};
 
 use std::alloc::Global;
-use sw_data::OutOfMemory;
+use sw_base::OutOfMemory;
 use sw_drill::{Line, Lines, print};
 use sw_record::{ActorId, Step};
 use sw_settings::Settings;

@@ -1,4 +1,4 @@
-// Why an input is refused, and the line that is written for it.
+//! Why an input is refused, and the line that is written for it.
 
 ghost use Rattle.std.specs.Prelude.{◌≡◌, ◌++◌, List, codes, IfOk, OnOk, string_bytes};
 ghost use Rattle.std.specs.Fmt.{decimal};
@@ -9,7 +9,7 @@ ghost use Rattle.sw_top.specs.Refusals.{key_text, reason_text, settings_text, li
 use crate::status::Status;
 use std::alloc::Global;
 use sw_audit::{Verdict, print};
-use sw_data::{Octets, OutOfMemory};
+use sw_base::{Octets, OutOfMemory};
 use sw_settings::SettingsFault;
 use sw_text::{put_hex, put_number};
 

@@ -1,4 +1,4 @@
-// The command that the words of the command line name.
+//! The command that the words of the command line name.
 
 ghost use Rattle.std.specs.Prelude.{◌≡◌};
 ghost use Rattle.sw_top.specs.Words.{named, command_of};

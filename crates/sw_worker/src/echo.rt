@@ -1,7 +1,8 @@
 ghost use Rattle.std.specs.Prelude.{◌≡◌, IfOk};
 ghost use Rattle.sw_worker.specs.Echo.{echo_act};
 
-use sw_data::{Act, Event, OutOfMemory};
+use sw_base::OutOfMemory;
+use sw_data::{Act, Event};
 
 /// What Echo does with an event: it sends a packet back on its session. After the answer it is done.
 pub fn act_on(event: &Event) -> Result<Act, OutOfMemory>

@@ -3,9 +3,8 @@ ghost use Rattle.std.specs.Prelude.{◌≡◌};
 use crate::echo::act_on;
 use std::alloc::Global;
 use std::mem::replace;
-use sw_data::{
-    Act, Answer, Ask, Event, Given, Got, Log, Msg, Octets, OutOfMemory, Session, Target,
-};
+use sw_base::{Octets, OutOfMemory, Session};
+use sw_data::{Act, Answer, Ask, Event, Given, Got, Log, Msg, Target};
 use sw_link::{Asks, Gets, Message};
 
 /// What a worker is about.

@@ -3,7 +3,8 @@ ghost use Rattle.sw_world.specs.Shown.{untouched_link, shown_link, ended_on_way}
 
 use crate::state::State;
 use std::alloc::Global;
-use sw_data::{Cause, Ended, Log, Octets, OutOfMemory, Pieces, Session};
+use sw_base::{Octets, OutOfMemory, Pieces, Session};
+use sw_data::{Cause, Ended, Log};
 use sw_link::Link;
 use sw_reactor::ended;
 use sw_record::{LinkRecord, LinkState, Links, Logs, Record};

@@ -1,4 +1,4 @@
-// The core: all actors over plain pipes. Each step is one turn of an actor, or the pipe call that it asked for.
+//! The core: all actors over plain pipes. Each step is one turn of an actor, or the pipe call that it asked for.
 #![tactic(auto)]
 
 mod account;

@@ -4,7 +4,8 @@ ghost use Rattle.sw_world.specs.Pipes.{took_of, left_of, pushed_of, with_pushed}
 use std::alloc::Global;
 use std::collections::VecDeque;
 use std::marker::Model;
-use sw_data::{Got, OutOfMemory};
+use sw_base::OutOfMemory;
+use sw_data::Got;
 use sw_link::{Gets, Message};
 
 /// How many messages a pipe has room for.

@@ -3,8 +3,8 @@ ghost use Rattle.std.specs.Prelude.{◌≡◌};
 use crate::state::State;
 use std::alloc::Global;
 use std::marker::Model;
+use sw_base::OutOfMemory;
 use sw_conn::FitFraming;
-use sw_data::OutOfMemory;
 use sw_record::{Record, Step};
 use sw_settings::Settings;
 

@@ -1,4 +1,4 @@
-// The program: makes the real source and sink, hands them and the words to the top call, and ends with its status.
+//! The program: makes the real source and sink, hands them and the words to the top call, and ends with its status.
 #![tactic(auto)]
 
 use std::process::ExitCode;

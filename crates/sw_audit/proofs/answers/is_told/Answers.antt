@@ -1,5 +1,5 @@
 use Rattle.std.proofs.Common.{ap}
-use Rattle.sw_ports.specs.declared.shelf.Placed.{Placed}
+use Rattle.sw_port_shelf.specs.declared.shelf.Placed.{Placed}
 use Rattle.sw_table_laws.specs.Table.{TStep}
 use Rattle.sw_tmodel.specs.Plain.{shape_of}
 use Rattle.sw_audit.proofs.ValueLaws.{told_by, step_shown}

@@ -1,6 +1,6 @@
 use Rattle.std.proofs.Common.{◌≡◌, ◌+◌, ap, ◌∙◌, arith}
-use Rattle.sw_data.specs.declared.events.Counter.TheVariants.{Packets}
-use Rattle.sw_ports.specs.Board.{added}
+use Rattle.sw_base.specs.declared.counter.Counter.TheVariants.{Packets}
+use Rattle.sw_port_board.specs.Board.{added}
 use Rattle.sw_board.specs.Values.{SeatNow}
 use Rattle.sw_board_uses.proofs.Adding.{added_one}
 use Rattle.sw_board_uses.proofs.counting.add_times.Goals as goal

@@ -1,6 +1,6 @@
 use Rattle.std.proofs.Common.{◌≡◌, ◌+◌, ◌++◌, [], ◌∷◌, List, length, append-nil, refl, sym, ap, ◌∙◌, subst, inl, inr, arith}
-use Rattle.sw_data.specs.declared.events.Counter.TheVariants.{Packets}
-use Rattle.sw_ports.specs.Board.{added, reads, In}
+use Rattle.sw_base.specs.declared.counter.Counter.TheVariants.{Packets}
+use Rattle.sw_port_board.specs.Board.{added, reads, In}
 use Rattle.sw_board.specs.Values.{SeatNow, seat_now}
 use Rattle.sw_board.specs.Close.{all_added, actors_of, SumAnswered}
 use Rattle.sw_board_uses.proofs.Adding.{Three, three, added_reads}

@@ -1,8 +1,8 @@
 use Rattle.std.proofs.Common.{◌≡◌, ◌<◌, ◌+◌, ◌%◌, ◌++◌, ◌∷◌, [], ℕ, true, false, sym, ap, ◌∙◌, subst, add-one, arith}
 use Rattle.std.proofs.Math.Nat.{mod-lt}
-use Rattle.sw_ports.specs.declared.board.BoardStep.TheVariants.{Found}
-use Rattle.sw_ports.specs.Board.{members, first_of, found_busy}
-use Rattle.sw_ports.proofs.PlainBoards.{round}
+use Rattle.sw_port_board.specs.declared.board.BoardStep.TheVariants.{Found}
+use Rattle.sw_port_board.specs.Board.{members, first_of, found_busy}
+use Rattle.sw_port_board.proofs.PlainBoards.{round}
 use Rattle.sw_board.specs.Values.{SeatNow, SeatGoes}
 use Rattle.sw_board.proofs.Goes.{goes_more}
 use Rattle.sw_board.proofs.seat.SeatBoard.idle.Goals as goal

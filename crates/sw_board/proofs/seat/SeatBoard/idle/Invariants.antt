@@ -1,5 +1,5 @@
 use Rattle.std.proofs.Common.{◌≡◌, ◌<◌, ◌+◌, ◌%◌}
-use Rattle.sw_ports.specs.Board.{found_busy}
+use Rattle.sw_port_board.specs.Board.{found_busy}
 use Rattle.sw_board.specs.Values.{SeatGoes}
 use Rattle.sw_board.proofs.seat.SeatBoard.idle.Given as goal
 

@@ -1,8 +1,8 @@
 use Rattle.std.proofs.Common.{◌≡◌, ◌+◌, ℕ, List, [], ◌∷◌, ◌++◌, length, length-append, sym, ap, ◌∙◌, subst, arith}
-use Rattle.sw_ports.specs.declared.board.BoardStep.{BoardStep}
-use Rattle.sw_ports.specs.declared.board.BoardStep.TheVariants.{Read}
-use Rattle.sw_ports.specs.Board.{reads}
-use Rattle.sw_ports.proofs.PlainBoards.{capped_more}
+use Rattle.sw_port_board.specs.declared.board.BoardStep.{BoardStep}
+use Rattle.sw_port_board.specs.declared.board.BoardStep.TheVariants.{Read}
+use Rattle.sw_port_board.specs.Board.{reads}
+use Rattle.sw_port_board.proofs.PlainBoards.{capped_more}
 use Rattle.sw_board.specs.Values.{SeatNow, SeatGoes}
 use Rattle.sw_board.proofs.Goes.{goes_more, reads_snoc}
 use Rattle.sw_board.proofs.seat.SeatBoard.sum.Goals as goal

@@ -1,5 +1,5 @@
 use Rattle.std.proofs.Common.{◌≡◌, ℕ, List, length, sum}
-use Rattle.sw_ports.specs.Board.{capped, reads}
+use Rattle.sw_port_board.specs.Board.{capped, reads}
 use Rattle.sw_board.specs.Values.{SeatGoes}
 use Rattle.sw_board.proofs.seat.SeatBoard.sum.Given as goal
 

@@ -1,5 +1,5 @@
 use Rattle.std.proofs.Common.{◌≡◌, ◌+◌, sym, ap, ◌∙◌, arith}
-use Rattle.sw_ports.specs.Board.{capped, added}
+use Rattle.sw_port_board.specs.Board.{capped, added}
 use Rattle.sw_board.specs.Rule.{count_word}
 use Rattle.sw_board.specs.Places.{actor_at, steps_at}
 use Rattle.sw_board.proofs.Known.{count_there}

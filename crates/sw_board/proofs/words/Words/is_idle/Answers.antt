@@ -1,4 +1,4 @@
-use Rattle.sw_ports.specs.declared.board.BoardStep.TheVariants.{Found}
+use Rattle.sw_port_board.specs.declared.board.BoardStep.TheVariants.{Found}
 use Rattle.sw_board.specs.Places.{words_id}
 use Rattle.sw_board.proofs.Known.{after, idle_there, key_below}
 use Rattle.sw_board.proofs.Steps.{finds_at}

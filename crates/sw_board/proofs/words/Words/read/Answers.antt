@@ -1,4 +1,4 @@
-use Rattle.sw_ports.specs.declared.board.BoardStep.TheVariants.{Read}
+use Rattle.sw_port_board.specs.declared.board.BoardStep.TheVariants.{Read}
 use Rattle.sw_board.specs.Places.{words_id}
 use Rattle.sw_board.proofs.Known.{after, count_there, key_below}
 use Rattle.sw_board.proofs.Steps.{reads_at}

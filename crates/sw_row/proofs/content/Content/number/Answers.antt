@@ -1,7 +1,7 @@
 use Rattle.std.proofs.Common.{◌≡◌, ◌+◌, ◌-◌, ◌≤◌, take, drop, List, sym, ◌∙◌, ap, subst, arith, rules, Some, Option, to_z, of_z, w64}
 use Rattle.std.specs.Prelude.{ℤ, IfSome, slice_get}
 use Rattle.std.proofs.lemmas.Int.{ints}
-use Rattle.sw_data.specs.declared.table.Value.TheVariants as values
+use Rattle.sw_base.specs.declared.table.Value.TheVariants as values
 use Rattle.sw_column.specs.declared.column.Column.{Column}
 use Rattle.sw_column.specs.declared.column.Kind.{Kind}
 use Rattle.sw_column.specs.declared.column.Kind.TheVariants as kinds

@@ -28,3 +28,6 @@ returns-then-found-loaded-clause-refused g c =
 pub returns-clause-drew : goal.returns-clause-drew
 returns-clause-drew g c =
     composed g.C.Called.may g.C.Called.row_of g.C.Called.needs g.C.Called.does _ g.Q.Asked.call _ _ _ _ _ _ c.look-loaded.ensures (match_true _ _ _ (eq-eqb _ _ c.if-found-loaded.false) c.exchange-found.ensures)
+
+pub exchange-found-requires-clause-may : goal.exchange-found-requires-clause-may
+exchange-found-requires-clause-may g c = c.requires.may _ c.if-at-last_call.false

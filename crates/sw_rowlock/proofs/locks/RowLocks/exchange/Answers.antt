@@ -16,8 +16,8 @@ compare_exchange-requires g c =
     let counts = g.C.Called.counts _ _ c.self.invariant.empty in
     let change = subst (λ (v : SeatNow g.row.B.Denot g.row.P.Denot g.row.C-Call.Denot). (n : ℕ) → (done_on g.C.Called.row_of g.C.Called.needs g.C.Called.does q v.row v.pool n).change ≡ c.args.change) (sym c.seat.view_is) c.requires.change in
     let w = c.self.invariant.words in let at = c.word_of.ensures in
-    let fit = subst (λ (l : LocksNow g.row.B.Denot g.row.P.Denot). g.C.Called.may l.start q) (sym c.self.view_is) c.requires.may in
-    (s.of, omega (arith, w, at), draws_at g.C.Called.may g.C.Called.row_of g.C.Called.needs g.C.Called.does _ _ _ _ _ _ q c.args.change c.seat.inside.place (omega (arith, is, long)) (omega (arith, at, long)) s part fit hr hp change (λ qs. counts qs q) c.number_after-new.ensures)
+    let fit = subst (λ (l : LocksNow g.row.B.Denot g.row.P.Denot). g.C.Called.may l.start (c.args.old / 2097152) q) (sym c.self.view_is) c.requires.may in
+    (s.of, omega (arith, w, at), draws_at g.C.Called.may g.C.Called.row_of g.C.Called.needs g.C.Called.does _ _ _ _ _ _ q c.args.change c.seat.inside.place (omega (arith, is, long)) (omega (arith, at, long)) s part fit (λ qs. count_small g.C.Called.row_of g.C.Called.needs g.C.Called.does _ _ (counts qs q)) hr hp change (λ qs. counts qs q) c.number_after-new.ensures)
 
 pub invariant_of-seat : goal.invariant_of-seat
 invariant_of-seat g c =

@@ -18,7 +18,7 @@ join_seat-requires g c =
 pub invariant_of-seat : goal.invariant_of-seat
 invariant_of-seat g c =
     let s : Sits _ _ c.seat.inside.place = sits_of c.seat.inside.place c.self.view_is c.seat.view_is c.requires.seat c.seat.invariant in
-    is_seat _ _ _ (joined _ _ _ _ _ c.seat.inside.place c.join_seat.new.seat s c.join_seat.ensures.0 c.join_seat.ensures.2).0
+    is_seat _ _ _ (joined _ _ _ _ _ _ c.seat.inside.place c.join_seat.new.seat s c.join_seat.ensures.0 c.join_seat.ensures.2).0
 
 pub returns-clause-draws : goal.returns-clause-draws
 returns-clause-draws g c =

@@ -1,7 +1,7 @@
 use Rattle.std.proofs.Common.{◌≡◌, ◌<◌, ◌≤◌, ◌+◌, ◌%◌, ℕ, List, [], ◌∷◌, ◌++◌, length, length-append, append-nil, Err, ap, sym, ◌∙◌, subst, arith}
-use Rattle.sw_ports.specs.declared.answers.ClaimFault.TheVariants.{Full}
-use Rattle.sw_ports.specs.Claims.{In, Claims}
-use Rattle.sw_ports.proofs.Tries.{tried_more, all_differ}
+use Rattle.sw_port_book.specs.declared.answers.ClaimFault.TheVariants.{Full}
+use Rattle.sw_port_book.specs.Claims.{In, Claims}
+use Rattle.sw_port_book.proofs.Tries.{tried_more, all_differ}
 use Rattle.sw_sessions.specs.Values.{ClerkNow, clerk_now, slots}
 use Rattle.sw_sessions.proofs.clerk.ClerkDesk.claim.Goals as goal
 use Rattle.sw_sessions.proofs.clerk.ClerkDesk.claim.Goals.{After-loop-tries}

@@ -1,5 +1,5 @@
 use Rattle.std.proofs.Common.{◌≡◌, ◌+◌, ◌-◌, ◌≤◌, ℕ, List, length}
-use Rattle.sw_ports.specs.Claims.{Tried}
+use Rattle.sw_port_book.specs.Claims.{Tried}
 use Rattle.sw_sessions.specs.Values.{slots, clerk_now}
 use Rattle.sw_sessions.proofs.clerk.ClerkDesk.claim.Given as goal
 

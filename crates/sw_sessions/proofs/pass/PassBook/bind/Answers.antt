@@ -1,7 +1,7 @@
 use Rattle.std.proofs.Common.{rules, ◌≡◌, ◌∙◌, sym}
 use Rattle.std.specs.Arc.{arc_value}
-use Rattle.sw_ports.proofs.Answered.{bind_other, bind_bound, bind_ok, binds_by}
-use Rattle.sw_ports.specs.declared.word.Word.{Word}
+use Rattle.sw_port_book.proofs.Answered.{bind_other, bind_bound, bind_ok, binds_by}
+use Rattle.sw_port_book.specs.declared.word.Word.{Word}
 use Rattle.sw_sessions.specs.declared.rule.Call.TheVariants.{Bind}
 use Rattle.sw_sessions.specs.Places.{book_id, calls_at}
 use Rattle.sw_sessions.specs.Values.{PassNow, pass_now, called}

@@ -1,6 +1,6 @@
 use Rattle.std.proofs.Common.{rules, ◌∙◌, sym}
-use Rattle.sw_ports.proofs.Answered.{look_live, look_other}
-use Rattle.sw_ports.specs.declared.word.Word.{Word}
+use Rattle.sw_port_book.proofs.Answered.{look_live, look_other}
+use Rattle.sw_port_book.specs.declared.word.Word.{Word}
 use Rattle.sw_sessions.specs.Rule.{word_in}
 use Rattle.sw_sessions.proofs.pass.PassBook.look.Goals as goal
 use Rattle.sw_sessions.proofs.pass.PassBook.look.Goals.{then-found-number, else-found-number}

@@ -1,0 +1,4 @@
+pub mod Members
+pub mod Tries
+pub mod PlainClaims
+pub mod Answered

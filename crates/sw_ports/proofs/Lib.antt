@@ -1,5 +1,0 @@
-pub mod PlainBoards
-pub mod Members
-pub mod Tries
-pub mod PlainClaims
-pub mod Answered

@@ -1,7 +1,0 @@
-use Rattle.std.proofs.Common.{◌≡◌, map, sum, take}
-use Rattle.sw_ports.specs.Board.{capped}
-use Rattle.sw_ports.specs.PlainBoard.{count_of}
-use Rattle.sw_ports.proofs.plain_board.PlainBoardBoard.sum.Given as goal
-
-abbrev pub invariant-loop-counts : goal.invariant-loop-counts
-invariant-loop-counts l = l.total ≡ capped (sum (map (count_of l.c) (take l.counts-index l.counts-items)))
