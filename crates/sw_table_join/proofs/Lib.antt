@@ -1,2 +1,3 @@
 pub mod Mirror
 pub mod Counting
+pub mod Answering

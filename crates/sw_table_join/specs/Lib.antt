@@ -1,3 +1,6 @@
 pub mod Calls
 pub mod Histories
 pub mod Laws
+pub mod Tables
+pub mod Answers
+pub mod Following
