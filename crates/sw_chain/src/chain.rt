@@ -1,5 +1,5 @@
 //! A bucket: the head in place, and boxed rows behind it.
-ghost use Rattle.std.specs.Prelude.{◌≡◌, ◌<◌, ◌≤◌, ◌∷◌, [], length, take, remove, slice_get, Some, None, IsSome, IsTrue, IfSome, IfNone};
+ghost use Rattle.std.specs.Prelude.{◌≡◌, ◌<◌, ◌≤◌, ◌∷◌, [], length, remove, take, slice_get, Some, None, IsSome, IsTrue, IfSome, IfNone};
 ghost use Rattle.sw_base.specs.declared.table.Value.TheVariants as values;
 ghost use Rattle.sw_column.specs.declared.column.Kind.TheVariants as kinds;
 ghost use Rattle.sw_column.specs.Values.{HasKinds, holds};
@@ -168,7 +168,7 @@ impl Chain {
         }
     }
 
-    /// Writes a text into a column of a row, in place, cut at the column's size.
+    /// Writes a text into a column of a row, in place, cut at the column's size: nothing else is read or written.
     pub fn set_text(&mut self, at: u32, schema: &Schema, column: usize, offset: usize, text: &[u8])
         requires place { at < length self.old }
         requires packed { IfSome (slice_get self.old at) (λ r. r.columns ≡ schema.now) }

@@ -148,15 +148,4 @@ impl Row {
             Some(row) => Some(row),
         }
     }
-
-    /// The row behind this one, lent to be written. None comes exactly where the place is empty.
-    pub fn next_mut(&mut self) -> Option<&mut Row>
-        ensures none { IfNone result (self.old.behind ≡ []) }
-        ensures some { IfSome result (λ r. self.old.behind ≡ r.now.here ∷ r.now.behind) }
-    {
-        match &mut self.next {
-            None => None,
-            Some(row) => Some(row),
-        }
-    }
 }
