@@ -3,7 +3,7 @@ ghost use Rattle.std.specs.Prelude.{◌≡◌, ◌<◌, ◌∷◌, [], length, t
 ghost use Rattle.sw_base.specs.declared.table.Value.TheVariants as values;
 ghost use Rattle.sw_column.specs.declared.column.Kind.TheVariants as kinds;
 ghost use Rattle.sw_column.specs.Values.{HasKinds, holds};
-ghost use Rattle.sw_row.specs.Layout.{kept, offset_of};
+ghost use Rattle.sw_row.specs.Layout.{kept, offset_of, column_size};
 ghost use Rattle.sw_chain.specs.Rows.{with_values, with_value};
 
 use crate::parted::{Parted, join, part};
@@ -86,7 +86,7 @@ pub fn set_text_behind(head: &mut Row, at: u32, schema: &Schema, column: usize, 
     requires column { column < length schema.now }
     requires kind { IfSome (slice_get schema.now column) (λ c. c.kind ≡ kinds.Text) }
     requires offset { offset ≡ offset_of schema.now column }
-    ensures { IfSome (slice_get schema.now column) (λ c. head.new ≡ record head.old { behind = with_value head.old.behind at column (values.Text (take c.size text.now)) }) }
+    ensures { head.new ≡ record head.old { behind = with_value head.old.behind at column (values.Text (take (column_size (slice_get schema.now column)) text.now)) } }
 {
     let Parted { before, rest } = part(head.set_next(None), at);
     match rest {

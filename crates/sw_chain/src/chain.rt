@@ -3,7 +3,7 @@ ghost use Rattle.std.specs.Prelude.{◌≡◌, ◌<◌, ◌≤◌, ◌∷◌, []
 ghost use Rattle.sw_base.specs.declared.table.Value.TheVariants as values;
 ghost use Rattle.sw_column.specs.declared.column.Kind.TheVariants as kinds;
 ghost use Rattle.sw_column.specs.Values.{HasKinds, holds};
-ghost use Rattle.sw_row.specs.Layout.{kept, offset_of};
+ghost use Rattle.sw_row.specs.Layout.{kept, offset_of, column_size};
 ghost use Rattle.sw_chain.specs.Rows.{found, without, with_second, with_values, with_value};
 
 use crate::behind::{rewrite_behind, set_number_behind, set_text_behind, take_behind, take_first};
@@ -175,7 +175,7 @@ impl Chain {
         requires column { column < length schema.now }
         requires kind { IfSome (slice_get schema.now column) (λ c. c.kind ≡ kinds.Text) }
         requires offset { offset ≡ offset_of schema.now column }
-        ensures { IfSome (slice_get schema.now column) (λ c. self.new ≡ with_value self.old at column (values.Text (take c.size text.now))) }
+        ensures { self.new ≡ with_value self.old at column (values.Text (take (column_size (slice_get schema.now column)) text.now)) }
     {
         if at == 0 {
             self.head.set_text(schema, column, offset, text);

@@ -1,6 +1,7 @@
 -- The values of a row after a text was written into the bytes of its column.
-use Rattle.std.proofs.Common.{◌≡◌, ℕ, ◌+◌, ◌-◌, ◌≤◌, List, length, take, drop, set, Option, Some, refl, ap, sym, ◌∙◌, subst, arith}
+use Rattle.std.proofs.Common.{◌≡◌, ℕ, ◌+◌, ◌-◌, ◌≤◌, List, length, take, drop, set, min, Option, Some, refl, ap, sym, ◌∙◌, subst, arith}
 use Rattle.std.specs.Prelude.{slice_get}
+use Rattle.std.proofs.lemmas.List.{length-take, length-drop}
 use borrow.Rule.Slice.PartMut.{put_mid}
 use Rattle.sw_base.specs.declared.table.Value.TheVariants as values
 use Rattle.sw_column.specs.declared.column.Column.{Column}
@@ -23,3 +24,10 @@ text_written cs bytes piece at c o t is kind begins room len value =
     ∙ values_put cs bytes piece o (wide c) at c is begins refl room (len ∙ ap (λ n. length (take n (drop o bytes))) e)
     ∙ (λ i. set (values_in cs bytes) at (value_in (kind i) c.size piece))
     ∙ ap (λ (x : List ℕ). set (values_in cs bytes) at (values.Text x)) value
+
+-- the bytes behind the two of a text's length
+pub long : (o size : ℕ) (bytes : List ℕ) → o + size + 2 ≤ length bytes → length (take (o + size + 2 - o) (drop o bytes)) - 2 ≡ size
+long o size bytes le =
+    let drops : length (drop o bytes) ≡ length bytes - o = length-drop o bytes in
+    let takes : length (take (o + size + 2 - o) (drop o bytes)) ≡ min (o + size + 2 - o) (length (drop o bytes)) = length-take (o + size + 2 - o) (drop o bytes) in
+    omega arith

@@ -1,5 +1,5 @@
 -- How the values of a row stand in its bytes: column behind column, each in as many bytes as it is wide.
-use Rattle.std.specs.Prelude.{ℕ, ◌+◌, List, [], ◌∷◌, take, drop, sum_by, ◌==◌, if◌then◌else◌, ℤ, pos}
+use Rattle.std.specs.Prelude.{ℕ, Option, Some, None, ◌+◌, List, [], ◌∷◌, take, drop, sum_by, ◌==◌, if◌then◌else◌, ℤ, pos}
 use Rattle.std.specs.Int.{w8, w16, w32, w64, from_le_bytes, to_le_bytes, cast_signed, cast_unsigned}
 use Rattle.sw_base.specs.declared.table.Value.{Value}
 use Rattle.sw_base.specs.declared.table.Value.TheVariants as values
@@ -52,3 +52,8 @@ abbrev pub kept : List Column → List Value → List Value
 kept [] vs = []
 kept (c ∷ cs) [] = []
 kept (c ∷ cs) (v ∷ vs) = kept_value c.kind c.size v ∷ kept cs vs
+
+-- the size of a column, 0 where there is none
+abbrev pub column_size : Option Column → ℕ
+column_size None = 0
+column_size (Some c) = c.size

@@ -4,7 +4,7 @@ ghost use Rattle.sw_base.specs.declared.table.Value.TheVariants as values;
 ghost use Rattle.sw_column.specs.declared.column.Kind.TheVariants as kinds;
 ghost use Rattle.sw_column.specs.Fit.{is_key};
 ghost use Rattle.sw_column.specs.Values.{HasKinds, IsRow, holds};
-ghost use Rattle.sw_row.specs.Layout.{kept, offset_of};
+ghost use Rattle.sw_row.specs.Layout.{kept, offset_of, column_size};
 ghost use Rattle.sw_row.specs.Packed.{unpacked};
 
 use crate::bytes::{TEXT_HEAD, number, put_number, put_text};
@@ -120,7 +120,7 @@ impl Content {
         requires place { at < length schema.now }
         requires kind { IfSome (slice_get schema.now at) (λ c. c.kind ≡ kinds.Text) }
         requires offset { offset ≡ offset_of schema.now at }
-        ensures { IfSome (slice_get schema.now at) (λ c. self.new ≡ record self.old { values = slice_set self.old.values at (values.Text (take c.size text.now)) }) }
+        ensures { self.new ≡ record self.old { values = slice_set self.old.values at (values.Text (take (column_size (slice_get schema.now at)) text.now)) } }
     {
         schema.is_sound();
         let size = schema.at(at).size;
