@@ -36,7 +36,7 @@ pub fn create(
     let size = raised(size);
     let pool = Pool::make(alloc, (size * percent / 100) as usize, last_call)?;
     let rows = buckets(alloc, &schema, size)?;
-    let blank = RowBuf::make(alloc, &schema)?;
+    let blank_row = RowBuf::make(alloc, &schema)?;
     let Ok((locks, seat)) = RowLocks::make(alloc, rows, pool) else {
         return Err(OutOfMemory);
     };
@@ -45,7 +45,7 @@ pub fn create(
     let table = Table {
         locks,
         schema,
-        blank,
+        blank_row,
         size,
         percent,
         last_call,

@@ -30,7 +30,8 @@ impl Locks<'_> {
         ensures taken { IfOk result (λ x. seat.new ≡ record seat.old { row = Some (row, x) }) }
         ensures refused { IfErr result (λ found. (found ≡ 1) × (seat.new ≡ record seat.old { refusals = (row, found) ∷ seat.old.refusals })) }
     {
-        self.table.locks.try_row(seat, row)
+        let table = self.table;
+        table.locks.try_row(seat, row)
     }
 
     /// Takes the pool, or says as what its lock was found taken.
@@ -41,7 +42,8 @@ impl Locks<'_> {
         ensures taken { IfOk result (λ x. seat.new ≡ record seat.old { pool = Some x }) }
         ensures refused { IfErr result (λ found. (found ≡ 1) × (seat.new ≡ record seat.old { refusals = (pool_number self.now.table.now.locks.start, found) ∷ seat.old.refusals })) }
     {
-        self.table.locks.try_pool(seat)
+        let table = self.table;
+        table.locks.try_pool(seat)
     }
 
     /// Gives a row's bucket back as it was taken.
@@ -51,7 +53,8 @@ impl Locks<'_> {
         requires held { seat.old.row ≡ Some (row, value) }
         ensures { seat.new ≡ record seat.old { row = None } }
     {
-        self.table.locks.give_row(seat, row, value);
+        let table = self.table;
+        table.locks.give_row(seat, row, value);
     }
 
     /// Gives the pool back as it was taken.
@@ -61,6 +64,7 @@ impl Locks<'_> {
         requires held { seat.old.pool ≡ Some pool }
         ensures { seat.new ≡ record seat.old { pool = None } }
     {
-        self.table.locks.give_pool(seat, pool);
+        let table = self.table;
+        table.locks.give_pool(seat, pool);
     }
 }

@@ -36,7 +36,7 @@ pub type Seat = sw_rowlock::Seat<Bucket, Pool, TableCalls>;
 pub struct Table {
     pub(crate) locks: RowLocks<Bucket, Pool, TableCalls>,
     pub(crate) schema: Schema,
-    pub(crate) blank: RowBuf,
+    pub(crate) blank_row: RowBuf,
     pub(crate) size: u32,
     pub(crate) percent: u32,
     pub(crate) last_call: u64,
@@ -57,7 +57,7 @@ impl Model for Table {
     ghost use Rattle.std.specs.Prelude.{◌≡◌};
     ghost use Rattle.sw_column.specs.Values.{blank};
 
-    ghost invariant = { λ t. IsShared (record { columns = t.schema; size = t.size; percent = t.percent; last_call = t.last_call; locks = t.locks }) × (t.blank ≡ blank t.schema) };
+    ghost invariant = { λ t. IsShared (record { columns = t.schema; size = t.size; percent = t.percent; last_call = t.last_call; locks = t.locks }) × (t.blank_row ≡ blank t.schema) };
 }
 
 fn refused(fault: DrawFault) -> CallFault {
@@ -178,7 +178,7 @@ impl Table {
         let change = bucket.change(&turn, false);
         match self.locks.draw::<Of<N>>(seat, self.last_call, change) {
             Ok(drawn) => {
-                let reply = bucket.work(&self.schema, &self.blank, turn, call, row);
+                let reply = bucket.work(&self.schema, &self.blank_row, turn, call, row);
                 self.locks.give_row(seat, at, bucket);
                 Ok(Placed {
                     at: drawn.at,
@@ -225,7 +225,7 @@ impl Table {
         let change = bucket.change(&turn, pool.has_spare());
         match self.locks.draw::<Of<N>>(seat, self.last_call, change) {
             Ok(drawn) => {
-                let reply = bucket.work_with(&self.schema, &self.blank, turn, call, &mut pool);
+                let reply = bucket.work_with(&self.schema, &self.blank_row, turn, call, &mut pool);
                 self.locks.give_pool(seat, pool);
                 self.locks.give_row(seat, at, bucket);
                 Ok(Placed {
