@@ -1,6 +1,6 @@
 //! A script: the rules by the kind of event, so that the rule for an event is looked for among its own kind alone.
 
-ghost use Rattle.std.specs.Prelude.{◌≡◌, Some, None, IfOk, OnOk, OnErr, if◌then◌else◌};
+ghost use Rattle.std.specs.Prelude.{◌≡◌, ◌<◌, Some, None, IfOk, OnOk, OnErr, if◌then◌else◌};
 ghost use Rattle.sw_script.specs.Script.{no_rules, rules_on, with_rule, line_read};
 
 use crate::rule::{On, Rule, Rules, rule_in};
