@@ -1,0 +1,3 @@
+pub mod Glues
+pub mod Closes
+pub mod Numbers
