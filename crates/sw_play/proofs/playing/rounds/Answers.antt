@@ -1,5 +1,5 @@
-use Rattle.sw_top.proofs.PlayedLaw.{no_rounds, round_more}
-use Rattle.sw_top.proofs.playing.rounds.Goals as goal
+use Rattle.sw_play.proofs.PlayedLaw.{no_rounds, round_more}
+use Rattle.sw_play.proofs.playing.rounds.Goals as goal
 
 pub loop-init : goal.loop-init
 loop-init c = no_rounds c.args.world.now.state

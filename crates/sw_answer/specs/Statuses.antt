@@ -1,7 +1,7 @@
 -- The numbers of statuses.
 use Rattle.std.specs.Prelude.{ℕ}
-use Rattle.sw_top.specs.declared.status.Status.{Status}
-use Rattle.sw_top.specs.declared.status.Status.TheVariants as statuses
+use Rattle.sw_answer.specs.declared.status.Status.{Status}
+use Rattle.sw_answer.specs.declared.status.Status.TheVariants as statuses
 
 -- the number that the program ends with
 abbrev pub status_number : Status → ℕ

@@ -6,7 +6,7 @@ use Rattle.sw_thin_record.specs.declared.step.Step.{Step}
 use Rattle.sw_drill.specs.declared.schedule.Line.{Line}
 use Rattle.sw_drill.specs.Steps.{round, rounds, steps_of_line, steps_of}
 use Rattle.sw_thin_world.specs.declared.state.State.{State}
-use Rattle.sw_top.specs.Run.{stepped, played}
+use Rattle.sw_play.specs.Run.{stepped, played}
 
 -- steps behind others
 pub played-append : (xs ys : List Step) (s : State) → played (xs ++ ys) s ≡ played ys (played xs s)

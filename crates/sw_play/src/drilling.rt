@@ -1,12 +1,13 @@
 //! The command `drill`: a schedule is played.
 
 ghost use Rattle.std.specs.Prelude.{◌≡◌, Ok, IfOk, string_bytes};
-ghost use Rattle.sw_top.specs.Refusals.{IsMade, IsSettled};
-ghost use Rattle.sw_top.specs.Run.{answer_of, answered, text_seen};
+ghost use Rattle.sw_play.specs.Faults.{IsMade, IsSettled};
+ghost use Rattle.sw_answer.specs.Seen.{text_seen};
+ghost use Rattle.sw_play.specs.Run.{answer_of, answered};
 
 use crate::playing::played;
-use crate::refusal::{Refusal, is_memory};
 use std::alloc::Global;
+use sw_answer::{Refusal, is_memory};
 use sw_base::OutOfMemory;
 use sw_drill::{Drill, Pairs, read};
 use sw_settings::{Pair, Settings, SettingsFault, core_fault, from_pairs};

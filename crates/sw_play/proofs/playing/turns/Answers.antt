@@ -1,6 +1,6 @@
 use Rattle.sw_thin_record.specs.declared.step.Step.TheVariants.{Turn}
-use Rattle.sw_top.proofs.PlayedLaw.{none_played, turn_more}
-use Rattle.sw_top.proofs.playing.turns.Goals as goal
+use Rattle.sw_play.proofs.PlayedLaw.{none_played, turn_more}
+use Rattle.sw_play.proofs.playing.turns.Goals as goal
 
 pub loop-init : goal.loop-init
 loop-init c = none_played c.args.world.now.state

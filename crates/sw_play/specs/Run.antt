@@ -13,9 +13,9 @@ use Rattle.sw_thin_record.specs.declared.step.Step.{Step}
 use Rattle.sw_thin_world.specs.declared.state.State.{State}
 use Rattle.sw_thin_world.specs.Steps.{start, next}
 use Rattle.sw_thin_world.specs.Account.{record_of}
-use Rattle.sw_top.specs.Refusals.{drill_fault}
-use Rattle.sw_top.specs.declared.refusal.Refusal.{Refusal}
-use Rattle.sw_top.specs.declared.refusal.Refusal.TheVariants.{Line, Settings}
+use Rattle.sw_play.specs.Faults.{drill_fault}
+use Rattle.sw_answer.specs.declared.refusal.Refusal.{Refusal}
+use Rattle.sw_answer.specs.declared.refusal.Refusal.TheVariants.{Line, Settings}
 
 -- one step of the core
 unfoldable pub stepped : Step → State → State
@@ -50,8 +50,3 @@ answered (Err n) = Err (Line n)
 
 abbrev pub answer_of : List ℕ → Result (List ℕ) Refusal
 answer_of input = answered (drill_of input)
-
--- what a result says, with the text seen as bytes
-abbrev pub text_seen : {S : Type 0} → (S → List ℕ) → Result S Refusal → Result (List ℕ) Refusal
-text_seen view (Ok s) = Ok (view s)
-text_seen view (Err refusal) = Err refusal

@@ -5,7 +5,7 @@ ghost use Rattle.std.specs.Fmt.{decimal};
 ghost use Rattle.sw_text.specs.Hex.{hex};
 ghost use Rattle.sw_audit.specs.declared.verdict.Verdict.TheVariants as verdicts;
 ghost use Rattle.sw_audit.specs.Printing.{verdict_text};
-ghost use Rattle.sw_top.specs.Refusals.{column_word, is_memory, key_text, reason_text, settings_text, line_text, refusal_text, refusal_status};
+ghost use Rattle.sw_answer.specs.Refusals.{column_word, is_memory, key_text, reason_text, settings_text, line_text, refusal_text, refusal_status};
 
 use crate::status::Status;
 use std::alloc::Global;

@@ -11,12 +11,12 @@ use Rattle.sw_settings.specs.declared.faults.SettingsFault.TheVariants.{NotJson,
 use Rattle.sw_settings.specs.declared.values.Values.{Values}
 use Rattle.sw_settings.specs.Values.{values_of}
 use Rattle.sw_settings.specs.Faults.{core_fault, fault_of}
-use Rattle.sw_top.specs.declared.refusal.Refusal.{Refusal}
+use Rattle.sw_answer.specs.declared.refusal.Refusal.{Refusal}
 use Rattle.sw_audit.specs.declared.verdict.Verdict.TheVariants as verdicts
 use Rattle.sw_audit.specs.Printing.{verdict_text}
-use Rattle.sw_top.specs.declared.refusal.Refusal.TheVariants.{Line, Settings, Place}
-use Rattle.sw_top.specs.declared.status.Status.{Status}
-use Rattle.sw_top.specs.declared.status.Status.TheVariants as statuses
+use Rattle.sw_answer.specs.declared.refusal.Refusal.TheVariants.{Line, Settings, Place}
+use Rattle.sw_answer.specs.declared.status.Status.{Status}
+use Rattle.sw_answer.specs.declared.status.Status.TheVariants as statuses
 
 -- a word and a key behind it
 abbrev pub key_text : List ℕ → List ℕ → List ℕ
@@ -64,17 +64,3 @@ refusal_status (Place at) = statuses.No at
 abbrev pub is_memory : SettingsFault → Bool
 is_memory OutOfMemory = true
 is_memory _ = false
-
--- why a drill's settings are refused: for a key that the core doesn't know so far, or for their first fault
-unfoldable pub drill_fault : List Pair → Option SettingsFault
-drill_fault ps = option_or (core_fault ps) (fault_of ps)
-
--- the pairs are settings, or are refused for their first fault
-abbrev pub IsMade : List Pair → Result Values SettingsFault → Type 0
-IsMade ps (Ok v) = (fault_of ps ≡ None) × (v ≡ values_of ps)
-IsMade ps (Err fault) = fault_of ps ≡ Some fault
-
--- the same, where a key that the core doesn't know so far is refused first
-abbrev pub IsSettled : List Pair → Result Values SettingsFault → Type 0
-IsSettled ps (Ok v) = (drill_fault ps ≡ None) × (v ≡ values_of ps)
-IsSettled ps (Err fault) = drill_fault ps ≡ Some fault

@@ -2,9 +2,9 @@ use Rattle.std.proofs.Common.{◌≡◌, List, None, sym, ap, ◌∙◌, subst}
 use Rattle.std.specs.Prelude.{IfOk}
 use Rattle.sw_settings.specs.declared.pair.Pair.{Pair}
 use Rattle.sw_settings.specs.Faults.{core_fault}
-use Rattle.sw_top.specs.Refusals.{IsMade}
-use Rattle.sw_top.proofs.Sayings.{refused_first, known_settled}
-use Rattle.sw_top.proofs.drilling.settled.Goals as goal
+use Rattle.sw_play.specs.Faults.{IsMade}
+use Rattle.sw_play.proofs.Settled.{refused_first, known_settled}
+use Rattle.sw_play.proofs.drilling.settled.Goals as goal
 
 pub returns-in-Some : goal.returns-in-Some
 returns-in-Some c =

@@ -1,5 +1,5 @@
-use Rattle.sw_top.proofs.PlayedLaw.{line_more, none_played}
-use Rattle.sw_top.proofs.playing.play.Goals as goal
+use Rattle.sw_play.proofs.PlayedLaw.{line_more, none_played}
+use Rattle.sw_play.proofs.playing.play.Goals as goal
 
 pub loop-line-init : goal.loop-line-init
 loop-line-init c = none_played c.args.world.now.state

@@ -3,7 +3,7 @@
 ghost use Rattle.std.specs.Prelude.{◌≡◌, ℕ, ◌<◌, ◌≤◌, length, replicate, OnOk, IfOk, string_bytes};
 ghost use Rattle.sw_thin_record.specs.declared.step.Step.TheVariants.{Turn};
 ghost use Rattle.sw_drill.specs.Steps.{round, rounds, steps_of_line, steps_of};
-ghost use Rattle.sw_top.specs.Run.{stepped, played, fresh, account_text, drill_text};
+ghost use Rattle.sw_play.specs.Run.{stepped, played, fresh, account_text, drill_text};
 
 use std::alloc::Global;
 use sw_base::OutOfMemory;

@@ -1,7 +1,7 @@
 //! How a command ended.
 
 ghost use Rattle.std.specs.Prelude.{◌≡◌};
-ghost use Rattle.sw_top.specs.Statuses.{status_number};
+ghost use Rattle.sw_answer.specs.Statuses.{status_number};
 
 use sw_settings::SettingsFault;
 
