@@ -1,0 +1,17 @@
+pub mod Ends
+pub mod Faults
+pub mod Speaks
+pub mod Posting
+pub mod Making
+pub mod Showing
+pub mod Ending
+pub mod Turns
+pub mod Moments
+pub mod Generations
+pub mod Moves
+pub mod Fitting
+pub mod Tallying
+pub mod Course
+pub mod Joins
+pub mod Stops
+pub mod Owns
