@@ -15,7 +15,7 @@ use Rattle.sw_hand_laws.specs.Hand.{Got, Ports, Stage, Idle, Acting, Sending, Le
 use Rattle.sw_hand_laws.specs.Keeps.{Carried, CPost, silent}
 use Rattle.sw_hand_laws.specs.Kept.{Kept, GotFits}
 use Rattle.sw_hand_laws.specs.Fits.{Replayed, Fitting}
-use Rattle.sw_hand_laws.specs.Moved.{Moved, Waits, Both, Answers, Aims, Sends, Fulls, Hears, Skips, Overs, Leaves, Lefts, Stops, Nones, Nexts, Lasts, PortsFit, Holds}
+use Rattle.sw_hand_laws.specs.Moved.{Moved, Waits, Answers, Aims, Sends, Fulls, Hears, Skips, Overs, Leaves, Lefts, Stops, Nones, SkipStops, SkipNones, Nexts, Lasts, PortsFit, Holds}
 use Rattle.sw_hand_laws.proofs.Ends.{last_is}
 use Rattle.sw_hand_laws.proofs.Moves.{turn_moves}
 
@@ -90,9 +90,8 @@ none_leaves t (Tasker k) own e m q = tasker_leaves t own k e m
 -- a hand's last act, and what is on its way
 pub holds_moves : (t : Terms) (y : ActorId) (c : ℕ) (a b : Stage) (f g : Hand) → Moved t y c a f b g → Holds t y a f → Holds t y b g
 holds_moves t y c a b f g (Waits st h) k = k
-holds_moves t y c a b f g (Both {b = m} {g = i} p q) k = holds_moves t y c m b i g q (holds_moves t y c a m f i p k)
 holds_moves t y c a b f g (Answers h e act after ans next may q fit sums) k = record { last = last_is Done h.log (AnswerGiven ans) next; mine = k.mine; carries = tt }
-holds_moves t y c a b f g (Aims h e act after to m ans car fit) k = record { last = k.last; mine = k.mine; carries = car }
+holds_moves t y c a b f g (Aims h e act after to m ans car fit aim) k = record { last = k.last; mine = k.mine; carries = car }
 holds_moves t y c a b f g (Sends h e act to m ans next) k = record { last = last_is Done h.log (AnswerGiven ans) next; mine = k.mine; carries = tt }
 holds_moves t y c a b f g (Fulls h e d s to m ans after next) k = record { last = last_is Done h.log (AnswerGiven TaskFull) next; mine = k.mine; carries = tt }
 holds_moves t y c a b f g (Hears h from e act mine) k = record { last = last_is Done h.log (EventGiven e) act; mine = (mine, tt); carries = tt }
@@ -102,6 +101,8 @@ holds_moves t y c a b f g (Leaves h e to m q) k = record { last = k.last; mine =
 holds_moves t y c a b f g (Lefts h e to m) k = record { last = k.last; mine = tt; carries = tt }
 holds_moves t y c a b f g (Stops h) k = record { last = k.last; mine = tt; carries = tt }
 holds_moves t y c a b f g (Nones h) k = record { last = k.last; mine = tt; carries = tt }
+holds_moves t y c a b f g (SkipStops h from m none) k = record { last = k.last; mine = tt; carries = tt }
+holds_moves t y c a b f g (SkipNones h from m none) k = record { last = k.last; mine = tt; carries = tt }
 holds_moves t y c a b f g (Nexts h j) k = record { last = k.last; mine = tt; carries = tt }
 holds_moves t y c a b f g (Lasts h j) k = record { last = k.last; mine = tt; carries = tt }
 
@@ -115,11 +116,10 @@ holds t y Stopped h k = record { last = k.speaks.last; mine = k.speaks.mine; car
 
 pub fitting_moves : (t : Terms) (y : ActorId) (c : ℕ) (a b : Stage) (f g : Hand) → Moved t y c a f b g → Holds t y a f → Fitting t y a f → Fitting t y b g
 fitting_moves t y c a b f g (Waits st h) held k = k
-fitting_moves t y c a b f g (Both {b = m} {g = i} p q) held k = fitting_moves t y c m b i g q (holds_moves t y c a m f i p held) (fitting_moves t y c a m f i p held k)
 fitting_moves t y c a b f g (Answers h e act after ans next may q fit sums) held k = record { fits = log_fits t (is_worker y) h e act ans next k.replayed held.last fit k.fits; replayed = moved_on t h.log h.own (e ∷ []) h.next h.next ans next k.replayed.0 k.replayed.1.0 k.replayed.1.1 (silent_next h.next ans q); pending = tt }
-fitting_moves t y c a b f g (Aims h e act after to m ans car fit) held k = record { fits = k.fits; replayed = k.replayed; pending = fit }
-fitting_moves t y c a b f g (Sends h e act to m ans next) held k = record { fits = log_fits t (is_worker y) h e act ans next k.replayed held.last k.pending k.fits; replayed = moved_on t h.log h.own (e ∷ []) h.next (next_with h.next ans) ans next k.replayed.0 k.replayed.1.0 k.replayed.1.1 refl; pending = tt }
-fitting_moves t y c a b f g (Fulls h e d s to m ans after next) held k = record { fits = log_fits t (is_worker y) h e (TaskAct d s) TaskFull next k.replayed held.last (full_fits t y h e d s to m ans held.carries k.pending) k.fits; replayed = moved_on t h.log h.own (e ∷ []) h.next h.next TaskFull next k.replayed.0 k.replayed.1.0 k.replayed.1.1 refl; pending = tt }
+fitting_moves t y c a b f g (Aims h e act after to m ans car fit aim) held k = record { fits = k.fits; replayed = k.replayed; pending = (fit, aim) }
+fitting_moves t y c a b f g (Sends h e act to m ans next) held k = record { fits = log_fits t (is_worker y) h e act ans next k.replayed held.last k.pending.0 k.fits; replayed = moved_on t h.log h.own (e ∷ []) h.next (next_with h.next ans) ans next k.replayed.0 k.replayed.1.0 k.replayed.1.1 refl; pending = tt }
+fitting_moves t y c a b f g (Fulls h e d s to m ans after next) held k = record { fits = log_fits t (is_worker y) h e (TaskAct d s) TaskFull next k.replayed held.last (full_fits t y h e d s to m ans held.carries k.pending.0) k.fits; replayed = moved_on t h.log h.own (e ∷ []) h.next h.next TaskFull next k.replayed.0 k.replayed.1.0 k.replayed.1.1 refl; pending = tt }
 fitting_moves t y c a b f g (Hears h from e act mine) held k = record { fits = fits_end t (is_worker y) at_start Done h.log (EventGiven e) act k.fits tt; replayed = (let q = replay_end t at_start h.log (EventGiven e) act in (ap (λ (r : Replay). r.own) q ∙ ap (λ (z : ℕ → Option ℕ). own_with t z e) k.replayed.0, (ap (λ (r : Replay). r.event) q, ap (λ (r : Replay). r.next) q ∙ k.replayed.1))); pending = tt }
 fitting_moves t y c a b f g (Skips h from m none) held k = record { fits = k.fits; replayed = k.replayed; pending = tt }
 fitting_moves t y c a b f g (Overs h e none) held k = record { fits = k.fits; replayed = (ap (own_behind t (replay_after t at_start h.log).own) k.replayed.1.0 ∙ none_leaves t y (replay_after t at_start h.log).own e held.mine.0 none ∙ k.replayed.0, k.replayed.1.1); pending = tt }
@@ -127,6 +127,8 @@ fitting_moves t y c a b f g (Leaves h e to m q) held k = record { fits = k.fits;
 fitting_moves t y c a b f g (Lefts h e to m) held k = record { fits = k.fits; replayed = (ap (own_behind t (replay_after t at_start h.log).own) k.replayed.1.0 ∙ ap (λ (z : ℕ → Option ℕ). own_behind t z (e ∷ [])) k.replayed.0, k.replayed.1.1); pending = tt }
 fitting_moves t y c a b f g (Stops h) held k = record { fits = k.fits; replayed = k.replayed; pending = tt }
 fitting_moves t y c a b f g (Nones h) held k = record { fits = k.fits; replayed = k.replayed; pending = tt }
+fitting_moves t y c a b f g (SkipStops h from m none) held k = record { fits = k.fits; replayed = k.replayed; pending = tt }
+fitting_moves t y c a b f g (SkipNones h from m none) held k = record { fits = k.fits; replayed = k.replayed; pending = tt }
 fitting_moves t y c a b f g (Nexts h j) held k = record { fits = k.fits; replayed = k.replayed; pending = tt }
 fitting_moves t y c a b f g (Lasts h j) held k = record { fits = k.fits; replayed = k.replayed; pending = tt }
 

@@ -14,9 +14,9 @@ use Rattle.sw_past.specs.Views.{due}
 use Rattle.sw_hand_laws.specs.Hand.{Got, Ports, Stage, goodbye, turn, Hand, Seen, say, hear, skip, settle, answered, left_event, is_due}
 use Rattle.sw_hand_laws.specs.Keeps.{Carried, CSend, CClose, CReset, CPost, CGive}
 use Rattle.sw_hand_laws.specs.Kept.{Kept, GotFits}
-use Rattle.sw_hand_laws.specs.Moved.{Moved, Waits, Both, Answers, Aims, Sends, Fulls, Hears, Skips, Overs, Leaves, Lefts, Stops, Nones, Nexts, Lasts, PortsFit, Holds}
+use Rattle.sw_hand_laws.specs.Moved.{Moved, Waits, Answers, Aims, Sends, Fulls, Hears, Skips, Overs, Leaves, Lefts, Stops, Nones, SkipStops, SkipNones, Nexts, Lasts, PortsFit, Holds}
 use Rattle.sw_hand_laws.proofs.Moves.{turn_moves}
-use Rattle.sw_hand_laws.proofs.Fitting.{holds_moves, holds}
+use Rattle.sw_hand_laws.proofs.Fitting.{holds}
 use Rattle.sw_hand_laws.specs.Generations.{entries, IsOver, Generations}
 use Rattle.sw_hand_laws.proofs.Ends.{one_more, follows, told_same, last_is}
 
@@ -143,9 +143,8 @@ may_carried t y next e act to m a (CGive w id c b q) = tt
 
 pub generations_moves : (t : Terms) (y : ActorId) (c : ℕ) (num : ℕ) (a b : Stage) (f g : Hand) → Moved t y c a f b g → Holds t y a f → Generations c num f → Generations c num g
 generations_moves t y c num a b f g (Waits st h) held k = k
-generations_moves t y c num a b f g (Both {b = m} {g = i} p q) held k = generations_moves t y c num m b i g q (holds_moves t y c a m f i p held) (generations_moves t y c num a m f i p held k)
 generations_moves t y c num a b f g (Answers h e act after ans next may q fit sums) held k = generations_say c num h after act ans next held.last may k
-generations_moves t y c num a b f g (Aims h e act after to m ans car fit) held k = generations_same c num h (record h { seen = after }) refl refl refl refl refl k
+generations_moves t y c num a b f g (Aims h e act after to m ans car fit aim) held k = generations_same c num h (record h { seen = after }) refl refl refl refl refl k
 generations_moves t y c num a b f g (Sends h e act to m ans next) held k = generations_answered c num h act to m ans next held.last (may_carried t y h.next e act to m ans held.carries) k
 generations_moves t y c num a b f g (Fulls h e d s to m ans after next) held k = generations_say c num h after (TaskAct d s) TaskFull next held.last tt k
 generations_moves t y c num a b f g (Hears h from e act mine) held k = generations_hear t c num h from e act held.last k
@@ -155,6 +154,8 @@ generations_moves t y c num a b f g (Leaves h e to m q) held k = k
 generations_moves t y c num a b f g (Lefts h e to m) held k = generations_same c num h (left_event t h e to m) refl refl refl refl refl k
 generations_moves t y c num a b f g (Stops h) held k = k
 generations_moves t y c num a b f g (Nones h) held k = k
+generations_moves t y c num a b f g (SkipStops h from m none) held k = generations_same c num h (skip h from m) refl refl refl refl refl k
+generations_moves t y c num a b f g (SkipNones h from m none) held k = generations_same c num h (skip h from m) refl refl refl refl refl k
 generations_moves t y c num a b f g (Nexts h j) held k = generations_same c num h (settle h (goodbye t j) NoMore) refl refl refl refl refl k
 generations_moves t y c num a b f g (Lasts h j) held k = generations_same c num h (settle h (goodbye t j) NoMore) refl refl refl refl refl k
 

@@ -15,3 +15,4 @@ pub mod Course
 pub mod Joins
 pub mod Stops
 pub mod Owns
+pub mod Settled

@@ -1,6 +1,7 @@
--- Every turn is a few moves.
-use Rattle.std.proofs.Common.{◌≡◌, ℕ, ◌-◌, ◌%◌, ◌^◌, ltb, ◌==◌, Bool, true, false, if◌then◌else◌, List, [], ◌∷◌, ◌++◌, refl, ◌∙◌, sym, subst, append-nil, arith, Option, Some, None, suc, ◌⊎◌, Err, Ok, Result, ap, inl, inr}
+-- Every turn is one move.
+use Rattle.std.proofs.Common.{◌≡◌, ℕ, ◌-◌, ◌%◌, ◌^◌, ltb, ◌==◌, Bool, true, false, if◌then◌else◌, List, [], ◌∷◌, ◌++◌, refl, ◌∙◌, sym, subst, append-nil, arith, Option, Some, None, suc, ◌⊎◌, Err, Ok, Result, ap, inl, inr, ◌<◌}
 use Rattle.std.proofs.lemmas.Bool.Decides.{nat_tests}
+use Rattle.std.proofs.lemmas.Nat.{mod_below}
 use Rattle.sw_lists.proofs.Lists.{eq_is, eq_other, eq_same}
 use Rattle.sw_step.specs.declared.actor.ActorId.{ActorId}
 use Rattle.sw_step.specs.declared.actor.ActorId.TheVariants.{Door, Reactor, Worker, Tasker}
@@ -20,24 +21,24 @@ use Rattle.sw_record.specs.Tasks.{FitsDst}
 use Rattle.sw_record.specs.Fits.{is_own, Fits, IsThere}
 use Rattle.sw_record.specs.Causes.{refused}
 use Rattle.sw_past.specs.Messages.{Message, FreshMsg, SendMsg, CloseMsg, ResetMsg, Bye, EventMsg, OverMsg, NoMore}
-use Rattle.sw_past.specs.Views.{for_hand}
+use Rattle.sw_past.specs.Views.{for_hand, heard_in}
 use Rattle.sw_past.specs.Routes.{is_worker}
-use Rattle.sw_hand_laws.specs.Hand.{Got, Start, Took, Empty, Pushed, Full, Nothing, Ports, Stage, Idle, Acting, Sending, Leaving, Stopping, Stopped, Hand, Turned, last_words, goodbye, goodbyes, skip, settle, reach_seen, reach, exist_seen, exist, info_seen, info, bind_seen, bind, tasker_at, is_there, post_fit, post_to, post_some, post, finish, call_seen, call, done, make, full, sending, leaving, stop_if, stopping, go_if, may_stop, took_event, took_turn, idle_turn, turn, call_refused}
+use Rattle.sw_hand_laws.specs.Hand.{Got, Start, Took, Empty, Pushed, Full, Nothing, Ports, Stage, Idle, Acting, Sending, Leaving, Stopping, Stopped, Hand, Turned, last_words, goodbye, goodbyes, skip, settle, reach_seen, reach, exist_seen, exist, info_seen, info, bind_seen, bind, tasker_at, is_there, post_fit, post_to, post_some, post, finish, call_seen, call, done, make, full, sending, leaving, stop_if, stopping, go_if, may_stop, took_event, took_turn, idle_turn, turn, call_refused, go_on}
 use Rattle.sw_hand_laws.specs.Keeps.{Carried, CSend, CClose, CReset, CPost, CGive}
 use Rattle.sw_hand_laws.specs.Kept.{PushFits, GotFits}
-use Rattle.sw_hand_laws.specs.Moved.{Moved, Waits, Both, Answers, Aims, Sends, Fulls, Hears, Skips, Overs, Leaves, Lefts, Stops, Nones, Nexts, Lasts, Sums, PortsFit, BindFits}
+use Rattle.sw_hand_laws.specs.Moved.{Moved, Waits, Answers, Aims, Sends, Fulls, Hears, Skips, Overs, Leaves, Lefts, Stops, Nones, SkipStops, SkipNones, Nexts, Lasts, Sums, PortsFit, BindFits, AimFits, IdleFits}
 use Rattle.sw_hand_laws.proofs.Ends.{one_word, for_one}
 use Rattle.sw_hand_laws.proofs.Faults.{OfArguments, call_faults}
 
 abbrev Goes : Terms → ActorId → ℕ → Stage → Hand → Turned → Type 0
 Goes t y c st h r = Moved t y c st h r.stage r.hand
 
-goes_reach : (t : Terms) (y : ActorId) (c : ℕ) (h : Hand) (e : Event) (act : Act) (s : ℕ) (m : Message) (a : Answer) (p : Ports) (v : Bool) → Carried t y h.next e act (Reactor (reactor_of t s)) m a → Fits t (is_worker y) h.own h.next e act a → ((n : ℕ) → MayFollow act (AnswerGiven (NoSession n))) → ((n : ℕ) → v ≡ false → Fits t (is_worker y) h.own h.next e act (NoSession n)) → ((n : ℕ) → Sums h.words act (NoSession n)) → Goes t y c (Acting e act) h (reach t h e act s m a p v)
-goes_reach t y c h e act s m a p true k f may refuse sums = Aims h e act h.seen (Reactor (reactor_of t s)) m a k f
-goes_reach t y c h e act s m a p false k f may refuse sums = looked p.look
+goes_reach : (t : Terms) (y : ActorId) (c : ℕ) (h : Hand) (e : Event) (act : Act) (s : ℕ) (m : Message) (a : Answer) (p : Ports) (v : Bool) → Carried t y h.next e act (Reactor (reactor_of t s)) m a → Fits t (is_worker y) h.own h.next e act a → ((n : ℕ) → MayFollow act (AnswerGiven (NoSession n))) → ((n : ℕ) → v ≡ false → Fits t (is_worker y) h.own h.next e act (NoSession n)) → ((n : ℕ) → Sums h.words act (NoSession n)) → AimFits t act (Reactor (reactor_of t s)) → Goes t y c (Acting e act) h (reach t h e act s m a p v)
+goes_reach t y c h e act s m a p true k f may refuse sums aim = Aims h e act h.seen (Reactor (reactor_of t s)) m a k f aim
+goes_reach t y c h e act s m a p false k f may refuse sums aim = looked p.look
   where
     looked : (l : Look) → Goes t y c (Acting e act) h (reach_seen t h e act s m a p.act l)
-    looked (Live u) = Aims h e act (record h.seen { lives = h.seen.lives ++ s ∷ [] }) (Reactor (reactor_of t s)) m a k f
+    looked (Live u) = Aims h e act (record h.seen { lives = h.seen.lives ++ s ∷ [] }) (Reactor (reactor_of t s)) m a k f aim
     looked (Other n) = Answers h e act (record h.seen { others = h.seen.others ++ (s, n) ∷ [] }) (NoSession n) p.act (may n) refl (refuse n refl) (sums n)
 
 goes_exist : (t : Terms) (y : ActorId) (c : ℕ) (h : Hand) (e : Event) (s : ℕ) (p : Ports) (v : Bool) → is_own t h.own e s ≡ v → Goes t y c (Acting e (Exist s)) h (exist h e s p v)
@@ -89,26 +90,31 @@ there_not : (t : Terms) (d : Dst) → is_there t d ≡ false → ¬ IsThere t d
 there_not t Any q i = absurd (cc)
 there_not t (At k) q i = absurd (grind (arith, nat_tests))
 
-goes_fit : (t : Terms) (w : ℕ) (c : ℕ) (h : Hand) (e : Event) (d : Dst) (b : List ℕ) (p : Ports) (v : Bool) → ¬ (t.tasker_num ≡ 0) → IsThere t d → (h.next == 2 ^ 64 - 1) ≡ v → Goes t (Worker w) c (Acting e (TaskAct d b)) h (post_fit t w h e d b p v)
-goes_fit t w c h e d b p true n i q = Answers h e (TaskAct d b) (h.seen) IdsSpent p.act tt refl (refl, n, i, eq_is h.next (2 ^ 64 - 1) q) tt
-goes_fit t w c h e d b p false n i q = Aims h e (TaskAct d b) h.seen (Tasker (tasker_at t h.next d p.idle)) (EventMsg (Task w h.next b)) (Posted h.next) (CPost w (tasker_at t h.next d p.idle) d b refl (fits_place t h.next d p.idle) (apart h.next (2 ^ 64 - 1) q)) (record { here = refl; some = n; there = i; unspent = apart h.next (2 ^ 64 - 1) q }, refl)
+tasker_there : (t : Terms) (next : ℕ) (d : Dst) (idle : Option ℕ) → ¬ (t.tasker_num ≡ 0) → IsThere t d → IdleFits t idle → tasker_at t next d idle < t.tasker_num
+tasker_there t next (At k) idle n i f = i
+tasker_there t next Any (Some k) n i f = f
+tasker_there t next Any None n i f = mod_below next t.tasker_num (omega (arith, n))
 
-goes_to : (t : Terms) (w : ℕ) (c : ℕ) (h : Hand) (e : Event) (d : Dst) (b : List ℕ) (p : Ports) (v : Bool) → ¬ (t.tasker_num ≡ 0) → is_there t d ≡ v → Goes t (Worker w) c (Acting e (TaskAct d b)) h (post_to t w h e d b p v)
-goes_to t w c h e d b p true n i = goes_fit t w c h e d b p (h.next == 2 ^ 64 - 1) n (there_is t d i) refl
-goes_to t w c h e d b p false n i = Answers h e (TaskAct d b) (h.seen) BadTarget p.act tt refl (refl, n, there_not t d i) tt
+goes_fit : (t : Terms) (w : ℕ) (c : ℕ) (h : Hand) (e : Event) (d : Dst) (b : List ℕ) (p : Ports) (v : Bool) → ¬ (t.tasker_num ≡ 0) → IsThere t d → IdleFits t p.idle → (h.next == 2 ^ 64 - 1) ≡ v → Goes t (Worker w) c (Acting e (TaskAct d b)) h (post_fit t w h e d b p v)
+goes_fit t w c h e d b p true n i f q = Answers h e (TaskAct d b) (h.seen) IdsSpent p.act tt refl (refl, n, i, eq_is h.next (2 ^ 64 - 1) q) tt
+goes_fit t w c h e d b p false n i f q = Aims h e (TaskAct d b) h.seen (Tasker (tasker_at t h.next d p.idle)) (EventMsg (Task w h.next b)) (Posted h.next) (CPost w (tasker_at t h.next d p.idle) d b refl (fits_place t h.next d p.idle) (apart h.next (2 ^ 64 - 1) q)) (record { here = refl; some = n; there = i; unspent = apart h.next (2 ^ 64 - 1) q }, refl) (tasker_there t h.next d p.idle n i f)
 
-goes_some : (t : Terms) (w : ℕ) (c : ℕ) (h : Hand) (e : Event) (d : Dst) (b : List ℕ) (p : Ports) (v : Bool) → (t.tasker_num == 0) ≡ v → Goes t (Worker w) c (Acting e (TaskAct d b)) h (post_some t w h e d b p v)
-goes_some t w c h e d b p true n = Answers h e (TaskAct d b) (h.seen) NoTaskWorkers p.act tt refl (refl, eq_is t.tasker_num 0 n) tt
-goes_some t w c h e d b p false n = goes_to t w c h e d b p (is_there t d) (apart t.tasker_num 0 n) refl
+goes_to : (t : Terms) (w : ℕ) (c : ℕ) (h : Hand) (e : Event) (d : Dst) (b : List ℕ) (p : Ports) (v : Bool) → ¬ (t.tasker_num ≡ 0) → IdleFits t p.idle → is_there t d ≡ v → Goes t (Worker w) c (Acting e (TaskAct d b)) h (post_to t w h e d b p v)
+goes_to t w c h e d b p true n f i = goes_fit t w c h e d b p (h.next == 2 ^ 64 - 1) n (there_is t d i) f refl
+goes_to t w c h e d b p false n f i = Answers h e (TaskAct d b) (h.seen) BadTarget p.act tt refl (refl, n, there_not t d i) tt
 
-goes_post : (t : Terms) (y : ActorId) (c : ℕ) (h : Hand) (e : Event) (d : Dst) (b : List ℕ) (p : Ports) → Goes t y c (Acting e (TaskAct d b)) h (post t y h e d b p)
-goes_post t (Worker w) c h e d b p = goes_some t w c h e d b p (t.tasker_num == 0) refl
-goes_post t Door c h e d b p = Answers h e (TaskAct d b) (h.seen) NotHere p.act tt refl refl tt
-goes_post t (Reactor n) c h e d b p = Answers h e (TaskAct d b) (h.seen) NotHere p.act tt refl refl tt
-goes_post t (Tasker n) c h e d b p = Answers h e (TaskAct d b) (h.seen) NotHere p.act tt refl refl tt
+goes_some : (t : Terms) (w : ℕ) (c : ℕ) (h : Hand) (e : Event) (d : Dst) (b : List ℕ) (p : Ports) (v : Bool) → IdleFits t p.idle → (t.tasker_num == 0) ≡ v → Goes t (Worker w) c (Acting e (TaskAct d b)) h (post_some t w h e d b p v)
+goes_some t w c h e d b p true f n = Answers h e (TaskAct d b) (h.seen) NoTaskWorkers p.act tt refl (refl, eq_is t.tasker_num 0 n) tt
+goes_some t w c h e d b p false f n = goes_to t w c h e d b p (is_there t d) (apart t.tasker_num 0 n) f refl
+
+goes_post : (t : Terms) (y : ActorId) (c : ℕ) (h : Hand) (e : Event) (d : Dst) (b : List ℕ) (p : Ports) → IdleFits t p.idle → Goes t y c (Acting e (TaskAct d b)) h (post t y h e d b p)
+goes_post t (Worker w) c h e d b p f = goes_some t w c h e d b p (t.tasker_num == 0) f refl
+goes_post t Door c h e d b p f = Answers h e (TaskAct d b) (h.seen) NotHere p.act tt refl refl tt
+goes_post t (Reactor n) c h e d b p f = Answers h e (TaskAct d b) (h.seen) NotHere p.act tt refl refl tt
+goes_post t (Tasker n) c h e d b p f = Answers h e (TaskAct d b) (h.seen) NotHere p.act tt refl refl tt
 
 goes_finish : (t : Terms) (y : ActorId) (c : ℕ) (h : Hand) (e : Event) (b : List ℕ) (p : Ports) → Goes t y c (Acting e (FinishAct b)) h (finish h e b p)
-goes_finish t y c h (Task w id x) b p = Aims h (Task w id x) (FinishAct b) h.seen (Worker w) (EventMsg (Finish id b)) Finished (CGive w id x b refl) refl
+goes_finish t y c h (Task w id x) b p = Aims h (Task w id x) (FinishAct b) h.seen (Worker w) (EventMsg (Finish id b)) Finished (CGive w id x b refl) refl tt
 goes_finish t y c h (Connect s) b p = Answers h (Connect s) (FinishAct b) (h.seen) NotHere p.act tt refl refl tt
 goes_finish t y c h (Packet s i x) b p = Answers h (Packet s i x) (FinishAct b) (h.seen) NotHere p.act tt refl refl tt
 goes_finish t y c h (Closed s) b p = Answers h (Closed s) (FinishAct b) (h.seen) NotHere p.act tt refl refl tt
@@ -150,13 +156,13 @@ goes_done t y c h e [] q = Overs h e q
 goes_done t y c h e ((to, m) ∷ ms) q = Leaves h e to m (one_word t y e to m ms q)
 
 goes_make : (t : Terms) (y : ActorId) (c : ℕ) (h : Hand) (e : Event) (p : Ports) (act : Act) → PortsFit t (Acting e act) h p → Goes t y c (Acting e act) h (make t y h e p act)
-goes_make t y c h e p (Send s b) f = goes_reach t y c h e (Send s b) s (SendMsg s b) Sent p (is_own t h.own e s) (CSend s b) tt (λ n. tt) (λ n q. q) (λ n. tt)
-goes_make t y c h e p (Close s) f = goes_reach t y c h e (Close s) s (CloseMsg s) Asked p (is_own t h.own e s) (CClose s) tt (λ n. tt) (λ n q. q) (λ n. tt)
-goes_make t y c h e p (Reset s) f = goes_reach t y c h e (Reset s) s (ResetMsg s) Asked p (is_own t h.own e s) (CReset s) tt (λ n. tt) (λ n q. q) (λ n. tt)
+goes_make t y c h e p (Send s b) f = goes_reach t y c h e (Send s b) s (SendMsg s b) Sent p (is_own t h.own e s) (CSend s b) tt (λ n. tt) (λ n q. q) (λ n. tt) tt
+goes_make t y c h e p (Close s) f = goes_reach t y c h e (Close s) s (CloseMsg s) Asked p (is_own t h.own e s) (CClose s) tt (λ n. tt) (λ n q. q) (λ n. tt) tt
+goes_make t y c h e p (Reset s) f = goes_reach t y c h e (Reset s) s (ResetMsg s) Asked p (is_own t h.own e s) (CReset s) tt (λ n. tt) (λ n q. q) (λ n. tt) tt
 goes_make t y c h e p (Bind s u) f = goes_bind t y c h e s u p (t.mode == 5) refl f
 goes_make t y c h e p (Exist s) f = goes_exist t y c h e s p (is_own t h.own e s) refl
 goes_make t y c h e p (Info s) f = goes_info t y c h e s p (if t.mode == 5 then false else is_own t h.own e s) refl
-goes_make t y c h e p (TaskAct d b) f = goes_post t y c h e d b p
+goes_make t y c h e p (TaskAct d b) f = goes_post t y c h e d b p f
 goes_make t y c h e p (FinishAct b) f = goes_finish t y c h e b p
 goes_make t y c h e p (Table n) f = goes_call t y c h e n p t.columns refl f
 goes_make t y c h e p (Stats n) f = Answers h e (Stats n) (record h.seen { sums = h.seen.sums ++ (n, p.sum) ∷ [] }) (Count p.sum) p.act tt refl tt f
@@ -213,19 +219,31 @@ goes_go : (t : Terms) (y : ActorId) (c : ℕ) (h : Hand) (v : Bool) → Goes t y
 goes_go t y c h true = goes_first t y c h (ltb 0 (goodbyes t y))
 goes_go t y c h false = Waits Idle h
 
+-- the same behind a message that is counted alone
+skips_first : (t : Terms) (y : ActorId) (c : ℕ) (h : Hand) (from : ActorId) (m : Message) (v : Bool) → heard_in y m ≡ [] → Goes t y c Idle h (stop_if t (skip h from m) 0 v)
+skips_first t y c h from m true q = SkipStops h from m q
+skips_first t y c h from m false q = SkipNones h from m q
+
+skips_go : (t : Terms) (y : ActorId) (c : ℕ) (h : Hand) (from : ActorId) (m : Message) (v : Bool) → heard_in y m ≡ [] → Goes t y c Idle h (go_if t y (skip h from m) v)
+skips_go t y c h from m true q = skips_first t y c h from m (ltb 0 (goodbyes t y)) q
+skips_go t y c h from m false q = Skips h from m q
+
+goes_skip : (t : Terms) (y : ActorId) (c : ℕ) (h : Hand) (from : ActorId) (m : Message) → heard_in y m ≡ [] → Goes t y c Idle h (go_on t y (skip h from m))
+goes_skip t y c h from m q = skips_go t y c h from m (may_stop t y (skip h from m)) q
+
 goes_event : (t : Terms) (y : ActorId) (c : ℕ) (h : Hand) (from : ActorId) (e : Event) (act : Act) (es : List Event) → for_hand y e ≡ es → Goes t y c Idle h (took_event t y c h from e act es)
-goes_event t y c h from e act [] q = Both (Skips h from (EventMsg e) (append-nil (for_hand y e) ∙ q)) (goes_go t y c (skip h from (EventMsg e)) (may_stop t y (skip h from (EventMsg e))))
+goes_event t y c h from e act [] q = goes_skip t y c h from (EventMsg e) (append-nil (for_hand y e) ∙ q)
 goes_event t y c h from e act (f ∷ fs) q = Hears h from e act (for_one y e f fs q)
 
 goes_took : (t : Terms) (y : ActorId) (c : ℕ) (h : Hand) (from : ActorId) (act : Act) (m : Message) → Goes t y c Idle h (took_turn t y c h from act m)
 goes_took t y c h from act (EventMsg e) = goes_event t y c h from e act (for_hand y e) refl
-goes_took t y c h from act (FreshMsg ip s) = Both (Skips h from (FreshMsg ip s) refl) (goes_go t y c (skip h from (FreshMsg ip s)) (may_stop t y (skip h from (FreshMsg ip s))))
-goes_took t y c h from act (SendMsg s b) = Both (Skips h from (SendMsg s b) refl) (goes_go t y c (skip h from (SendMsg s b)) (may_stop t y (skip h from (SendMsg s b))))
-goes_took t y c h from act (CloseMsg s) = Both (Skips h from (CloseMsg s) refl) (goes_go t y c (skip h from (CloseMsg s)) (may_stop t y (skip h from (CloseMsg s))))
-goes_took t y c h from act (ResetMsg s) = Both (Skips h from (ResetMsg s) refl) (goes_go t y c (skip h from (ResetMsg s)) (may_stop t y (skip h from (ResetMsg s))))
-goes_took t y c h from act (Bye s) = Both (Skips h from (Bye s) refl) (goes_go t y c (skip h from (Bye s)) (may_stop t y (skip h from (Bye s))))
-goes_took t y c h from act (OverMsg id) = Both (Skips h from (OverMsg id) refl) (goes_go t y c (skip h from (OverMsg id)) (may_stop t y (skip h from (OverMsg id))))
-goes_took t y c h from act NoMore = Both (Skips h from NoMore refl) (goes_go t y c (skip h from NoMore) (may_stop t y (skip h from NoMore)))
+goes_took t y c h from act (FreshMsg ip s) = goes_skip t y c h from (FreshMsg ip s) refl
+goes_took t y c h from act (SendMsg s b) = goes_skip t y c h from (SendMsg s b) refl
+goes_took t y c h from act (CloseMsg s) = goes_skip t y c h from (CloseMsg s) refl
+goes_took t y c h from act (ResetMsg s) = goes_skip t y c h from (ResetMsg s) refl
+goes_took t y c h from act (Bye s) = goes_skip t y c h from (Bye s) refl
+goes_took t y c h from act (OverMsg id) = goes_skip t y c h from (OverMsg id) refl
+goes_took t y c h from act NoMore = goes_skip t y c h from NoMore refl
 
 goes_idle : (t : Terms) (y : ActorId) (c : ℕ) (h : Hand) (p : Ports) (got : Got) → GotFits t Idle got → Goes t y c Idle h (idle_turn t y c h p got)
 goes_idle t y c h p (Took from m) f = goes_took t y c h from p.act m

@@ -1,7 +1,7 @@
 -- Each move keeps what is said of own sessions, and all grows.
 use Rattle.std.proofs.Common.{◌≡◌, ◌⊎◌, ℕ, ◌%◌, ◌==◌, Bool, true, false, if◌then◌else◌, List, [], ◌∷◌, ◌++◌, refl, ap, ◌∙◌, sym, subst, Option, Some, None, inl, inr, suc}
 use Rattle.sw_lists.specs.Lists.{collect, Each, when}
-use Rattle.sw_lists.proofs.Lists.{collect-append, append_none, eq_is, eq_same, prefix_refl, prefix_trans, prefix_front}
+use Rattle.sw_lists.proofs.Lists.{collect-append, append_none, eq_is, eq_same, prefix_refl, prefix_front}
 use Rattle.sw_step.specs.declared.actor.ActorId.{ActorId}
 use Rattle.sw_step.specs.declared.actor.ActorId.TheVariants.{Door, Reactor, Worker, Tasker}
 use Rattle.sw_record.specs.Words.{Event, Connect, Packet, Closed, Finish, Task, Act, TaskAct, Done, Answer, TaskFull, EventGiven, AnswerGiven, Log}
@@ -15,12 +15,12 @@ use Rattle.sw_past.specs.Views.{byes_in}
 use Rattle.sw_join.proofs.Own.{own}
 use Rattle.sw_hand_laws.specs.Hand.{Got, Ports, Stage, Idle, Acting, Sending, Leaving, Stopping, Stopped, Hand, last_words, bye_of, bye_to, over_of, say, hear, skip, settle, answered, left_event, goodbye, turn}
 use Rattle.sw_hand_laws.specs.Keeps.{Carried, CSend, CClose, CReset, CPost, CGive, now}
-use Rattle.sw_hand_laws.specs.Moved.{Moved, Waits, Both, Answers, Aims, Sends, Fulls, Hears, Skips, Overs, Leaves, Lefts, Stops, Nones, Nexts, Lasts, Holds, PortsFit}
+use Rattle.sw_hand_laws.specs.Moved.{Moved, Waits, Answers, Aims, Sends, Fulls, Hears, Skips, Overs, Leaves, Lefts, Stops, Nones, SkipStops, SkipNones, Nexts, Lasts, Holds, PortsFit}
 use Rattle.sw_hand_laws.specs.Kept.{Kept, GotFits}
 use Rattle.sw_hand_laws.specs.Owns.{Owns, Grown}
 use Rattle.sw_hand_laws.proofs.Ends.{bare_collect}
 use Rattle.sw_hand_laws.proofs.Showing.{told_it, told_more, told_still, own_less_is}
-use Rattle.sw_hand_laws.proofs.Fitting.{holds_moves, holds}
+use Rattle.sw_hand_laws.proofs.Fitting.{holds}
 use Rattle.sw_hand_laws.proofs.Moves.{turn_moves}
 
 -- a list whose Connect stands first
@@ -94,9 +94,8 @@ other_bye u s q = rw q refl
 -- all grows
 pub grown_moves : (t : Terms) (y : ActorId) (c : ℕ) (a b : Stage) (f g : Hand) → Moved t y c a f b g → Grown f g
 grown_moves t y c a b f g (Waits st h) = record { log = prefix_refl h.log; took = prefix_refl h.took; pushed = prefix_refl h.pushed }
-grown_moves t y c a b f g (Both {b = m} {g = i} p q) = (let x = grown_moves t y c a m f i p in let z = grown_moves t y c m b i g q in record { log = prefix_trans f.log i.log g.log x.log z.log; took = prefix_trans f.took i.took g.took x.took z.took; pushed = prefix_trans f.pushed i.pushed g.pushed x.pushed z.pushed })
 grown_moves t y c a b f g (Answers h e act after ans next may q fit sums) = record { log = prefix_front h.log ((AnswerGiven ans, next) ∷ []); took = prefix_refl h.took; pushed = prefix_refl h.pushed }
-grown_moves t y c a b f g (Aims h e act after to m ans car fit) = record { log = prefix_refl h.log; took = prefix_refl h.took; pushed = prefix_refl h.pushed }
+grown_moves t y c a b f g (Aims h e act after to m ans car fit aim) = record { log = prefix_refl h.log; took = prefix_refl h.took; pushed = prefix_refl h.pushed }
 grown_moves t y c a b f g (Sends h e act to m ans next) = record { log = prefix_front h.log ((AnswerGiven ans, next) ∷ []); took = prefix_refl h.took; pushed = prefix_front h.pushed ((to, m) ∷ []) }
 grown_moves t y c a b f g (Fulls h e d s to m ans after next) = record { log = prefix_front h.log ((AnswerGiven TaskFull, next) ∷ []); took = prefix_refl h.took; pushed = prefix_refl h.pushed }
 grown_moves t y c a b f g (Hears h from e act mine) = record { log = prefix_front h.log ((EventGiven e, act) ∷ []); took = prefix_front h.took ((from, EventMsg e) ∷ []); pushed = prefix_refl h.pushed }
@@ -106,6 +105,8 @@ grown_moves t y c a b f g (Leaves h e to m q) = record { log = prefix_refl h.log
 grown_moves t y c a b f g (Lefts h e to m) = record { log = prefix_refl h.log; took = prefix_refl h.took; pushed = prefix_front h.pushed ((to, m) ∷ []) }
 grown_moves t y c a b f g (Stops h) = record { log = prefix_refl h.log; took = prefix_refl h.took; pushed = prefix_refl h.pushed }
 grown_moves t y c a b f g (Nones h) = record { log = prefix_refl h.log; took = prefix_refl h.took; pushed = prefix_refl h.pushed }
+grown_moves t y c a b f g (SkipStops h from m none) = record { log = prefix_refl h.log; took = prefix_front h.took ((from, m) ∷ []); pushed = prefix_refl h.pushed }
+grown_moves t y c a b f g (SkipNones h from m none) = record { log = prefix_refl h.log; took = prefix_front h.took ((from, m) ∷ []); pushed = prefix_refl h.pushed }
 grown_moves t y c a b f g (Nexts h j) = record { log = prefix_refl h.log; took = prefix_refl h.took; pushed = prefix_front h.pushed ((goodbye t j, NoMore) ∷ []) }
 grown_moves t y c a b f g (Lasts h j) = record { log = prefix_refl h.log; took = prefix_refl h.took; pushed = prefix_front h.pushed ((goodbye t j, NoMore) ∷ []) }
 
@@ -197,9 +198,8 @@ owns_same t st other h g l o b n k = record {
 
 pub owns_moves : (t : Terms) (y : ActorId) (c : ℕ) (a b : Stage) (f g : Hand) → Moved t y c a f b g → Holds t y a f → Owns t a f → Owns t b g
 owns_moves t y c a b f g (Waits st h) held k = k
-owns_moves t y c a b f g (Both {b = m} {g = i} p q) held k = owns_moves t y c m b i g q (holds_moves t y c a m f i p held) (owns_moves t y c a m f i p held k)
 owns_moves t y c a b f g (Answers h e act after ans next may q fit sums) held k = owns_say t h.log h.pushed h.own e ans next (Acting e act) h (say (record h { seen = after }) (AnswerGiven ans) next) refl refl refl refl (λ s z. z) k
-owns_moves t y c a b f g (Aims h e act after to m ans car fit) held k = owns_same t (Acting e act) (Sending e act to m ans) h (record h { seen = after }) refl refl (λ s z. z) k.current k
+owns_moves t y c a b f g (Aims h e act after to m ans car fit aim) held k = owns_same t (Acting e act) (Sending e act to m ans) h (record h { seen = after }) refl refl (λ s z. z) k.current k
 owns_moves t y c a b f g (Sends h e act to m ans next) held k = owns_say t h.log h.pushed h.own e ans next (Sending e act to m ans) h (answered h to m ans next) refl refl refl refl (λ s z. no_bye s h.pushed to m (carried_bye t y h.next e act to m ans s held.carries) z) k
 owns_moves t y c a b f g (Fulls h e d s to m ans after next) held k = owns_say t h.log h.pushed h.own e TaskFull next (Sending e (TaskAct d s) to m ans) h (say (record h { seen = after }) (AnswerGiven TaskFull) next) refl refl refl refl (λ s z. z) k
 owns_moves t y c a b f g (Hears h from e act mine) held k = owns_hear t c h from e act k
@@ -209,6 +209,8 @@ owns_moves t y c a b f g (Leaves h e to m q) held k = owns_same t (Acting e Done
 owns_moves t y c a b f g (Lefts h e to m) held k = owns_left t h e to m (is_last t y e to m held.carries) k
 owns_moves t y c a b f g (Stops h) held k = owns_same t Idle (Stopping 0) h h refl refl (λ s z. z) (λ s. tt) k
 owns_moves t y c a b f g (Nones h) held k = owns_same t Idle Stopped h h refl refl (λ s z. z) (λ s. tt) k
+owns_moves t y c a b f g (SkipStops h from m none) held k = owns_same t Idle (Stopping 0) h (skip h from m) refl refl (λ s z. z) (λ s. tt) k
+owns_moves t y c a b f g (SkipNones h from m none) held k = owns_same t Idle Stopped h (skip h from m) refl refl (λ s z. z) (λ s. tt) k
 owns_moves t y c a b f g (Nexts h j) held k = owns_same t (Stopping j) (Stopping (suc j)) h (settle h (goodbye t j) NoMore) refl refl (λ s z. no_bye s h.pushed (goodbye t j) NoMore refl z) (λ s. tt) k
 owns_moves t y c a b f g (Lasts h j) held k = owns_same t (Stopping j) Stopped h (settle h (goodbye t j) NoMore) refl refl (λ s z. no_bye s h.pushed (goodbye t j) NoMore refl z) (λ s. tt) k
 

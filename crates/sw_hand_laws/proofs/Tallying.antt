@@ -15,10 +15,10 @@ use Rattle.sw_hand_laws.specs.Hand.{Got, Ports, Seen, Stage, Hand, say, skip, se
 use Rattle.sw_hand_laws.specs.Keeps.{Carried, CSend, CClose, CReset, CPost, CGive, silent}
 use Rattle.sw_hand_laws.specs.Kept.{Kept, GotFits}
 use Rattle.sw_hand_laws.specs.Fits.{Saturated, SumsAfter, Tallied}
-use Rattle.sw_hand_laws.specs.Moved.{Moved, Waits, Both, Answers, Aims, Sends, Fulls, Hears, Skips, Overs, Leaves, Lefts, Stops, Nones, Nexts, Lasts, Sums, PortsFit, Holds}
+use Rattle.sw_hand_laws.specs.Moved.{Moved, Waits, Answers, Aims, Sends, Fulls, Hears, Skips, Overs, Leaves, Lefts, Stops, Nones, SkipStops, SkipNones, Nexts, Lasts, Sums, PortsFit, Holds}
 use Rattle.sw_hand_laws.proofs.Ends.{one_more, answers_more}
 use Rattle.sw_hand_laws.proofs.Moves.{turn_moves}
-use Rattle.sw_hand_laws.proofs.Fitting.{holds_moves, holds}
+use Rattle.sw_hand_laws.proofs.Fitting.{holds}
 
 silent_sends : (act : Act) (a : Answer) → silent a ≡ true → counted SendsCount (act, a) ≡ []
 silent_sends act Sent q = absurd (cc)
@@ -214,9 +214,8 @@ tallied_same h other l w k = record {
 
 pub tallied_moves : (t : Terms) (y : ActorId) (c : ℕ) (a b : Stage) (f g : Hand) → Moved t y c a f b g → Holds t y a f → Tallied f → Tallied g
 tallied_moves t y c a b f g (Waits st h) held k = k
-tallied_moves t y c a b f g (Both {b = m} {g = i} p q) held k = tallied_moves t y c m b i g q (holds_moves t y c a m f i p held) (tallied_moves t y c a m f i p held k)
 tallied_moves t y c a b f g (Answers h e act after ans next may q fit sums) held k = tallied_say h after act ans next held.last q sums k
-tallied_moves t y c a b f g (Aims h e act after to m ans car fit) held k = tallied_same h (record h { seen = after }) refl refl k
+tallied_moves t y c a b f g (Aims h e act after to m ans car fit aim) held k = tallied_same h (record h { seen = after }) refl refl k
 tallied_moves t y c a b f g (Sends h e act to m ans next) held k = record {
   words = λ i. subst (λ n. Saturated n (words_with h.words ans i)) (sym (tally_now i h.log act ans next held.last)) (words_carried t y h.next e act to m ans i (length (tally i h.log)) h.words held.carries (k.words i));
   sums = subst (SumsAfter []) (sym (answers_now h.log act ans next held.last)) (sums_more [] (answers_of h.log) (act, ans) k.sums (sum_carried t y h.next e act to m ans (answers_of h.log) held.carries)) }
@@ -230,6 +229,8 @@ tallied_moves t y c a b f g (Leaves h e to m q) held k = k
 tallied_moves t y c a b f g (Lefts h e to m) held k = tallied_same h (left_event t h e to m) refl refl k
 tallied_moves t y c a b f g (Stops h) held k = k
 tallied_moves t y c a b f g (Nones h) held k = k
+tallied_moves t y c a b f g (SkipStops h from m none) held k = tallied_same h (skip h from m) refl refl k
+tallied_moves t y c a b f g (SkipNones h from m none) held k = tallied_same h (skip h from m) refl refl k
 tallied_moves t y c a b f g (Nexts h j) held k = tallied_same h (settle h (goodbye t j) NoMore) refl refl k
 tallied_moves t y c a b f g (Lasts h j) held k = tallied_same h (settle h (goodbye t j) NoMore) refl refl k
 

@@ -10,7 +10,6 @@ use Rattle.sw_column.specs.declared.column.Column.{Column}
 use Rattle.sw_port_book.specs.declared.answers.Look.{Look}
 use Rattle.sw_port_book.specs.declared.answers.Look.TheVariants.{Live, Other}
 use Rattle.sw_port_book.specs.declared.answers.BindFault.{BindFault}
-use Rattle.sw_port_book.specs.declared.answers.BindFault.TheVariants as fault
 use Rattle.sw_port_shelf.specs.declared.shelf.Placed.{Placed}
 use Rattle.sw_record.specs.Words.{Event, Connect, Packet, Closed, Finish, Task, Act, Send, Close, Reset, Bind, Exist, Info, TaskAct, FinishAct, Table, Stats, Shutdown, Done, Answer, Sent, Asked, BindOk, Exists, InfoIs, Posted, Finished, TableIs, TableRefused, Count, NoSession, Bound, BadUid, WrongMode, TaskFull, BadTarget, NoTaskWorkers, IdsSpent, NotHere, NoTable, AnswerGiven, Any, At, Call, CallFault, Dst}
 use Rattle.sw_record.specs.Terms.{Terms, reactor_of}
@@ -34,6 +33,7 @@ use Rattle.sw_hand_laws.proofs.Posting.{posting_at_once, posting_seen, posting_a
 use Rattle.sw_hand_laws.proofs.Making.{making_at_once, making_stage, making_answered, making_hear, making_skip, making_over, making_left, making_ended}
 use Rattle.sw_hand_laws.proofs.Showing.{showing_at_once, showing_asked, showing_answered, showing_hear, showing_stage, showing_over, showing_skip, showing_settle, showing_left, own_granted}
 use Rattle.sw_hand_laws.proofs.Ending.{ending_stage, ending_say, ending_seen, carried_not, ending_answered, ending_left, ending_hear, ending_skip, ending_stop, ending_none, ending_next, ending_last}
+use Rattle.sw_port_book.specs.declared.answers.BindFault.TheVariants as fault
 
 -- the steps
 kept_at_once : (t : Terms) (y : ActorId) (h : Hand) (e : Event) (act : Act) (after : Seen) (a : Answer) (next : Act) → MayFollow act (AnswerGiven a) → silent a ≡ true → Noted t h.log h.seen act a after → Kept t y (Acting e act) h → Kept t y (Acting e next) (say (record h { seen = after }) (AnswerGiven a) next)

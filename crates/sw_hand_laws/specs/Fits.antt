@@ -9,6 +9,7 @@ use Rattle.sw_record.specs.Answers.{answers_of}
 use Rattle.sw_record.specs.Counts.{tally, count_in, counted, greatest}
 use Rattle.sw_past.specs.Routes.{is_worker}
 use Rattle.sw_hand_laws.specs.Hand.{Stage, Acting, Sending, Leaving, Hand}
+use Rattle.sw_hand_laws.specs.Moved.{AimFits}
 
 -- the hand has what its log tells: its own sessions, the event at hand and the next id
 abbrev pub Replayed : Terms → Stage → Hand → Replay → Type 0
@@ -17,9 +18,9 @@ Replayed t (Sending e act to m a) h r = (r.own ≡ h.own) × ((r.event ≡ e ∷
 Replayed t (Leaving e to m) h r = (r.own ≡ h.own) × ((r.event ≡ e ∷ []) × (r.next ≡ h.next))
 Replayed t _ h r = (own_behind t r.own r.event ≡ h.own) × (r.next ≡ h.next)
 
--- the answer that waits for its push fits
+-- the answer that waits for its push fits, and a task that waits goes to a task worker that is there
 abbrev pub FitsPending : Terms → ActorId → Stage → Hand → Type 0
-FitsPending t y (Sending e act to m a) h = Fits t (is_worker y) h.own h.next e act a
+FitsPending t y (Sending e act to m a) h = Fits t (is_worker y) h.own h.next e act a × AimFits t act to
 FitsPending t y _ h = Unit {0}
 
 -- every answer fits, also the one that waits for its push
