@@ -15,9 +15,11 @@ use Rattle.sw_hand_laws.specs.Hand.{Got, Start, Took, Empty, Pushed, Full, Nothi
 use Rattle.sw_hand_laws.specs.Kept.{Kept, GotFits, sent}
 use Rattle.sw_hand_laws.specs.Moved.{Moved, Waits, Answers, Aims, Sends, Fulls, Hears, Skips, Overs, Leaves, Lefts, Stops, Nones, SkipStops, SkipNones, Nexts, Lasts, PortsFit}
 use Rattle.sw_hand_laws.specs.Settled.{IsSettled}
+use Rattle.sw_hand_laws.specs.Course.{Course}
 use Rattle.sw_hand_laws.proofs.Moves.{turn_moves}
 use Rattle.sw_hand_laws.proofs.Turns.{turn_keeps}
 use Rattle.sw_hand_laws.proofs.Owns.{turn_grows}
+use Rattle.sw_hand_laws.proofs.Course.{good}
 
 -- with nothing on its way
 settled_now : (t : Terms) (y : ActorId) (e : Event) (act : Act) (h : Hand) → Kept t y (Acting e act) h → IsSettled t y h.log h.pushed
@@ -80,3 +82,7 @@ pub turn_settles : (t : Terms) (y : ActorId) (c : ℕ) (p : Ports) (st : Stage) 
 turn_settles t y c p st h got hand u f k = elim (one_entry t y c st (turn t y c p st h got).stage h (turn t y c p st h got).hand (turn_moves t y c p st h got u f))
   [ inl q ↦ inl q
   | inr (x, (q, (e, (act, s)))) ↦ inr (x, (q, settled_then t y (turn t y c p st h got).stage (turn t y c p st h got).hand (sent t st got h.pushed) e act s (sent_front t y c p st h got u f) (turn_keeps t y c p st h got hand f k).kept)) ]
+
+-- in every state that a hand comes to
+pub settles : (t : Terms) (y : ActorId) (c left : ℕ) (p : Ports) (st : Stage) (h : Hand) (got : Got) → IsHand t y → PortsFit t st h p → Course t y c left st h got → ((turn t y c p st h got).hand.log ≡ h.log) ⊎ ((x : Given × Act) × (((turn t y c p st h got).hand.log ≡ h.log ++ x ∷ []) × IsSettled t y (turn t y c p st h got).hand.log (sent t st got h.pushed)))
+settles t y c left p st h got hand u k = let g = good t y c left st h got hand k in turn_settles t y c p st h got hand u g.fits g.kept
