@@ -4,6 +4,8 @@
 
 mod fitting;
 mod making;
+mod playing;
 mod scripted;
+mod uses;
 
 pub use scripted::Scripted;

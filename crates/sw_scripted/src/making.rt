@@ -1,12 +1,15 @@
-//! The act that a script's act comes to.
+//! The act that an act of a script comes to.
 
-ghost use Rattle.std.specs.Prelude.{◌≡◌, drop, IfOk};
-ghost use Rattle.sw_scripted.specs.Making.{seen, said, value_of, act_of};
+ghost use Rattle.std.specs.Prelude.{◌≡◌, [], Option, None, Some, IfOk, string_bytes};
+ghost use Rattle.sw_log_text.specs.Answers.{answer_text};
+ghost use Rattle.sw_scripted.specs.Making.{act_of, move_for, bytes_for, who_for, value_of};
+ghost use Rattle.sw_scripted.specs.Taken.{given_by, text_seen, said};
 
 use std::alloc::Global;
 use sw_base::{Call, Key, Octets, OutOfMemory, Session, TryCopy};
 use sw_call::Verb;
-use sw_data::Act;
+use sw_data::{Act, Answer};
+use sw_log_text::put_answer;
 use sw_script::{Bytes, Move, Who};
 
 /// What an act takes its session and its bytes from.
@@ -17,8 +20,8 @@ pub struct Taken<'a> {
     pub data: &'a [u8],
     /// The event's bytes behind the rule's prefix.
     pub tail: &'a [u8],
-    /// The text of the last answer.
-    pub answer: &'a [u8],
+    /// The last answer in this rule; none before the first act.
+    pub answer: Option<&'a Answer>,
 }
 
 fn copied(alloc: Global, bytes: &[u8]) -> Result<Octets, OutOfMemory>
@@ -28,19 +31,30 @@ fn copied(alloc: Global, bytes: &[u8]) -> Result<Octets, OutOfMemory>
     Ok(Octets::of(bytes))
 }
 
+/// The text of an answer, and no bytes without one.
+fn told(alloc: Global, answer: Option<&Answer>) -> Result<Octets, OutOfMemory>
+    ensures { IfOk result (λ b. b ≡ text_seen answer) }
+{
+    let mut out = String::new(alloc);
+    if let Some(answer) = answer {
+        put_answer(&mut out, answer)?;
+    }
+    Ok(Octets::of(out.into_bytes()))
+}
+
 fn value(alloc: Global, bytes: &Bytes, from: &Taken<'_>) -> Result<Octets, OutOfMemory>
-    ensures { IfOk result (λ b. b ≡ value_of bytes.now (seen from.now)) }
+    ensures { IfOk result (λ b. b ≡ value_of (bytes_for (given_by from.now) bytes.now) (text_seen from.now.answer)) }
 {
     match bytes {
         Bytes::Literal(bytes) => bytes.copy(),
         Bytes::Data => copied(alloc, from.data),
         Bytes::Tail => copied(alloc, from.tail),
-        Bytes::Answer => copied(alloc, from.answer),
+        Bytes::Answer => told(alloc, from.answer),
     }
 }
 
 fn said(who: Who, from: &Taken<'_>) -> Option<Session>
-    ensures { result ≡ said who (seen from.now) }
+    ensures { result ≡ said (who_for from.now.session who) }
 {
     match who {
         Who::Own => from.session,
@@ -54,7 +68,7 @@ fn send(
     bytes: &Bytes,
     from: &Taken<'_>,
 ) -> Result<Act, OutOfMemory>
-    ensures { IfOk result (λ a. a ≡ act_of (Move.Send who bytes.now) (seen from.now)) }
+    ensures { IfOk result (λ a. a ≡ act_of (move_for (given_by from.now) (Move.Send who bytes.now)) (text_seen from.now.answer)) }
 {
     match said(who, from) {
         None => Ok(Act::Done),
@@ -63,7 +77,7 @@ fn send(
 }
 
 fn close(who: Who, from: &Taken<'_>) -> Act
-    ensures { result ≡ act_of (Move.Close who) (seen from.now) }
+    ensures { result ≡ act_of (move_for (given_by from.now) (Move.Close who)) (text_seen from.now.answer) }
 {
     match said(who, from) {
         None => Act::Done,
@@ -72,7 +86,7 @@ fn close(who: Who, from: &Taken<'_>) -> Act
 }
 
 fn reset(who: Who, from: &Taken<'_>) -> Act
-    ensures { result ≡ act_of (Move.Reset who) (seen from.now) }
+    ensures { result ≡ act_of (move_for (given_by from.now) (Move.Reset who)) (text_seen from.now.answer) }
 {
     match said(who, from) {
         None => Act::Done,
@@ -81,7 +95,7 @@ fn reset(who: Who, from: &Taken<'_>) -> Act
 }
 
 fn bind(who: Who, uid: u32, from: &Taken<'_>) -> Act
-    ensures { result ≡ act_of (Move.Bind who uid) (seen from.now) }
+    ensures { result ≡ act_of (move_for (given_by from.now) (Move.Bind who uid)) (text_seen from.now.answer) }
 {
     match said(who, from) {
         None => Act::Done,
@@ -90,7 +104,7 @@ fn bind(who: Who, uid: u32, from: &Taken<'_>) -> Act
 }
 
 fn exist(who: Who, from: &Taken<'_>) -> Act
-    ensures { result ≡ act_of (Move.Exist who) (seen from.now) }
+    ensures { result ≡ act_of (move_for (given_by from.now) (Move.Exist who)) (text_seen from.now.answer) }
 {
     match said(who, from) {
         None => Act::Done,
@@ -99,7 +113,7 @@ fn exist(who: Who, from: &Taken<'_>) -> Act
 }
 
 fn info(who: Who, from: &Taken<'_>) -> Act
-    ensures { result ≡ act_of (Move.Info who) (seen from.now) }
+    ensures { result ≡ act_of (move_for (given_by from.now) (Move.Info who)) (text_seen from.now.answer) }
 {
     match said(who, from) {
         None => Act::Done,
@@ -113,16 +127,16 @@ fn keyed(
     key: &Bytes,
     from: &Taken<'_>,
 ) -> Result<Act, OutOfMemory>
-    ensures { IfOk result (λ a. a ≡ act_of (Move.Keyed verb.now key.now) (seen from.now)) }
+    ensures { IfOk result (λ a. a ≡ act_of (move_for (given_by from.now) (Move.Keyed verb.now key.now)) (text_seen from.now.answer)) }
 {
     let verb = verb.try_copy()?;
     let key: Key = value(alloc, key, from)?;
     Ok(Act::Table(verb.on(key)))
 }
 
-/// The act that a script's act comes to.
+/// The act that an act of a script comes to.
 pub fn act_of(alloc: Global, one: &Move, from: &Taken<'_>) -> Result<Act, OutOfMemory>
-    ensures { IfOk result (λ a. a ≡ act_of one.now (seen from.now)) }
+    ensures { IfOk result (λ a. a ≡ act_of (move_for (given_by from.now) one.now) (text_seen from.now.answer)) }
 {
     match one {
         Move::Send(who, bytes) => send(alloc, *who, bytes, from),
