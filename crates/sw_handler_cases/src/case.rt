@@ -27,9 +27,9 @@ impl<'a> Case<'a> {
     pub fn add(&mut self, line: &'a str) -> Result<(), AllocError> {
         if self.kind.is_empty() {
             self.kind = line;
-            Ok(())
         } else {
-            self.lines.push(line)
+            self.lines.push(line)?;
         }
+        Ok(())
     }
 }

@@ -9,6 +9,7 @@ use sw_base::{Call, Name, OutOfMemory, Pairs, Value};
 use sw_text::put_bytes;
 
 /// A column's name, which is text.
+#[tactic(auto, using(crate::proofs::Names::name_of_text, crate::proofs::Names::name_of_bytes))]
 fn put_name(out: &mut String, name: &Name) -> Result<(), OutOfMemory>
     ensures { OnOk result (string_bytes out.new ≡ string_bytes out.old ++ name_text name.now) }
 {

@@ -1,6 +1,7 @@
 -- The acts of a rule, one after the other.
 use Rattle.std.proofs.Common.{◌≡◌, ℕ, suc, ◌+◌, ◌-◌, ◌<◌, ◌≤◌, Bool, List, [], ◌∷◌, ◌++◌, Option, Some, None, refl, sym, ap, ◌∙◌, append_assoc, arith}
 use Rattle.std.specs.Prelude.{option_map}
+use Rattle.sw_text.specs.Then.{◌>>=◌}
 use Rattle.sw_script.specs.declared.moves.Move.{Move}
 use Rattle.sw_script.specs.Moves.{move_of}
 use Rattle.sw_script.specs.Parts.{first_act}
@@ -44,13 +45,16 @@ acts_bad ms n i own text act after total lt is bad so_far = bad_by ms (n - (i + 
 -- the last act
 pub acts_last : (ms : List Move) (n i : ℕ) (own : Bool) (text act : List ℕ) (m : Move) (total : Option (List Move)) → i < n → first_act text ≡ Some (act, None) → move_of own act ≡ Some m
     → behind ms (acts_of (n - i) own text) ≡ total → Some (ms ++ m ∷ []) ≡ total
-acts_last ms n i own text act m total lt is made so_far = rw made at left_with ms n i own text (Some (act, None)) total lt is so_far
+acts_last ms n i own text act m total lt is made so_far =
+    let left : behind ms (option_map (λ one. one ∷ []) (move_of own act)) ≡ total = left_with ms n i own text (Some (act, None)) total lt is so_far in
+    rw made at left
 
 -- an act with others behind it
 pub acts_next : (ms : List Move) (n i : ℕ) (own : Bool) (text act rest : List ℕ) (m : Move) (total : Option (List Move)) → i < n → first_act text ≡ Some (act, Some rest) → move_of own act ≡ Some m
     → behind ms (acts_of (n - i) own text) ≡ total → behind (ms ++ m ∷ []) (acts_of (n - (i + 1)) own rest) ≡ total
 acts_next ms n i own text act rest m total lt is made so_far =
-    let one : behind ms (acts_behind m (acts_of (n - (i + 1)) own rest)) ≡ total = rw made at left_with ms n i own text (Some (act, Some rest)) total lt is so_far in
+    let left : behind ms (move_of own act >>= (λ one. acts_behind one (acts_of (n - (i + 1)) own rest))) ≡ total = left_with ms n i own text (Some (act, Some rest)) total lt is so_far in
+    let one : behind ms (acts_behind m (acts_of (n - (i + 1)) own rest)) ≡ total = rw made at left in
     sym (behind_more ms m (acts_of (n - (i + 1)) own rest)) ∙ one
 
 -- too many acts

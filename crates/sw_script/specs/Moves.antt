@@ -1,16 +1,14 @@
 -- Acts as a script writes them.
-use Rattle.std.specs.Prelude.{ℕ, List, [], ◌∷◌, codes, Bool, Option, Some, None, option_map, option_and_then, if◌then◌else◌}
+use Rattle.std.specs.Prelude.{ℕ, List, codes, Bool, Option, Some, None, option_map, if◌then◌else◌}
 use Rattle.std.specs.Str.{bytes_eq}
 use Rattle.sw_text.specs.Then.{◌>>=◌}
 use Rattle.sw_text.specs.Numbers.{number_within}
-use Rattle.sw_text.specs.Parts.{cut_at, part_at}
-use Rattle.sw_base.specs.declared.session.Session.{Session}
+use Rattle.sw_text.specs.Parts.{part_at}
 use Rattle.sw_base.specs.declared.counter.Counter.{Counter}
 use Rattle.sw_base.specs.declared.counter.Counter.TheVariants.{Accepted, Ended, Packets, Sends, Tasks, Finishes}
 use Rattle.sw_data.specs.declared.acts.Dst.{Dst}
 use Rattle.sw_data.specs.declared.acts.Dst.TheVariants.{Any, At}
 use Rattle.sw_call.specs.Calls.{verb_of}
-use Rattle.sw_script.specs.declared.bytes.Bytes.{Bytes}
 use Rattle.sw_script.specs.declared.moves.Who.{Who}
 use Rattle.sw_script.specs.declared.moves.Who.TheVariants.{Own, Other}
 use Rattle.sw_script.specs.declared.moves.Move.{Move}

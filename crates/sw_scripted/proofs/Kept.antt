@@ -1,5 +1,6 @@
 -- An act that doesn't use the event's bytes is the same whatever was kept of them.
-use Rattle.std.proofs.Common.{◌≡◌, ℕ, Bool, true, false, ◌||◌, List, [], ◌∷◌, length, drop, map, Option, Some, None, refl, ap}
+use Rattle.std.proofs.Common.{◌≡◌, ℕ, Bool, true, false, ◌||◌, List, [], ◌∷◌, length, drop, map, Option, Some, None, refl, sym, ap}
+use Rattle.std.proofs.lemmas.Bool.{false≢true}
 use Rattle.std.specs.Prelude.{if◌then◌else◌}
 use Rattle.std.specs.List.{list_any}
 use Rattle.sw_script.specs.declared.bytes.Bytes.{Bytes}
@@ -12,12 +13,12 @@ use Rattle.sw_scripted.specs.Steps.{kept}
 
 -- what was kept of an event: its session, and these bytes, of which so many are the prefix
 abbrev pub from : Option ℕ → ℕ → List ℕ → From
-from s n bytes = record { session = s; data = bytes; tail = drop n bytes }
+from s n bytes = record { session = s; bytes = bytes; tail = drop n bytes }
 
 bytes_same : (f g : From) (b : Bytes) → bytes_use b ≡ false → bytes_for f b ≡ bytes_for g b
 bytes_same f g (Literal b) not_used = refl
-bytes_same f g Data ()
-bytes_same f g Tail ()
+bytes_same f g Data used = absurd (false≢true (sym used))
+bytes_same f g Tail used = absurd (false≢true (sym used))
 bytes_same f g Answer not_used = refl
 
 move_same : (s : Option ℕ) (n : ℕ) (old new : List ℕ) (m : Move) → move_uses m ≡ false → move_for (from s n old) m ≡ move_for (from s n new) m
@@ -36,11 +37,11 @@ move_same s n old new moves.Shutdown not_used = refl
 
 or_first : (a b : Bool) → (a || b) ≡ false → a ≡ false
 or_first false b e = refl
-or_first true b ()
+or_first true b e = e
 
 or_second : (a b : Bool) → (a || b) ≡ false → b ≡ false
 or_second false b e = e
-or_second true b ()
+or_second true b e = absurd (false≢true (sym e))
 
 moves_same : (s : Option ℕ) (n : ℕ) (old new : List ℕ) (ms : List Move) → moves_use ms ≡ false → map (move_for (from s n old)) ms ≡ map (move_for (from s n new)) ms
 moves_same s n old new [] not_used = refl

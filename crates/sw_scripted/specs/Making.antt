@@ -14,7 +14,7 @@ use Rattle.sw_script.specs.declared.moves.Move.TheVariants as moves
 -- what an event gives to the acts of its rule: its session, its bytes, and those behind the rule's prefix
 pub record From : Type 0 where
   pub session : Option ℕ
-  pub data : List ℕ
+  pub bytes : List ℕ
   pub tail : List ℕ
 
 -- ---- an act with what the event gives written in
@@ -26,7 +26,7 @@ who_for (Some s) (Other other) = Other other
 
 abbrev pub bytes_for : From → Bytes → Bytes
 bytes_for f (Literal b) = Literal b
-bytes_for f Data = Literal f.data
+bytes_for f Data = Literal f.bytes
 bytes_for f Tail = Literal f.tail
 bytes_for f Answer = Answer
 

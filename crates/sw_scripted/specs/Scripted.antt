@@ -19,7 +19,7 @@ use Rattle.sw_scripted.specs.Making.{From, move_for, act_of}
 
 -- what an event gives to the acts of a rule
 abbrev pub from_of : Event → Rule → From
-from_of e r = record { session = session_of e; data = bytes_of e; tail = drop (length r.prefix) (bytes_of e) }
+from_of e r = record { session = session_of e; bytes = bytes_of e; tail = drop (length r.prefix) (bytes_of e) }
 
 abbrev pub moves_by : Event → Option Rule → List Move
 moves_by e None = []
@@ -51,7 +51,7 @@ on_given s to_come (givens.Answer a) = next_of (answer_text a) to_come
 
 -- what the event gave
 abbrev pub kept_from : Playing → Rule → From
-kept_from p r = record { session = p.session; data = p.data; tail = drop (length r.prefix) p.data }
+kept_from p r = record { session = p.session; bytes = p.bytes; tail = drop (length r.prefix) p.bytes }
 
 abbrev pub rest_of : Playing → Option Rule → List Move
 rest_of p None = []

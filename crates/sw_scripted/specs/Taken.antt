@@ -10,7 +10,7 @@ use Rattle.sw_scripted.specs.Making.{From}
 
 -- what the event gives
 abbrev pub given_by : Taken → From
-given_by t = record { session = t.session; data = t.data.now; tail = t.tail.now }
+given_by t = record { session = t.session; bytes = t.bytes.now; tail = t.tail.now }
 
 -- the text of the last answer
 abbrev pub text_seen : Option (Bor Answer) → List ℕ

@@ -13,11 +13,12 @@ use sw_log_text::put_answer;
 use sw_script::{Bytes, Move, Who};
 
 /// What an act takes its session and its bytes from.
+#[derive(Drop)]
 pub struct Taken<'a> {
     /// The event's session.
     pub session: Option<Session>,
     /// The event's bytes.
-    pub data: &'a [u8],
+    pub bytes: &'a [u8],
     /// The event's bytes behind the rule's prefix.
     pub tail: &'a [u8],
     /// The last answer in this rule; none before the first act.
@@ -33,7 +34,7 @@ fn copied(alloc: Global, bytes: &[u8]) -> Result<Octets, OutOfMemory>
 
 /// The text of an answer, and no bytes without one.
 fn told(alloc: Global, answer: Option<&Answer>) -> Result<Octets, OutOfMemory>
-    ensures { IfOk result (λ b. b ≡ text_seen answer) }
+    ensures { IfOk result (λ b. b ≡ text_seen answer.entry) }
 {
     let mut out = String::new(alloc);
     if let Some(answer) = answer {
@@ -47,7 +48,7 @@ fn value(alloc: Global, bytes: &Bytes, from: &Taken<'_>) -> Result<Octets, OutOf
 {
     match bytes {
         Bytes::Literal(bytes) => bytes.copy(),
-        Bytes::Data => copied(alloc, from.data),
+        Bytes::Data => copied(alloc, from.bytes),
         Bytes::Tail => copied(alloc, from.tail),
         Bytes::Answer => told(alloc, from.answer),
     }

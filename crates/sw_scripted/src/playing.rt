@@ -4,7 +4,7 @@ ghost use Rattle.std.specs.Prelude.{◌≡◌, Some, [], length, drop, map, IfOk
 ghost use Rattle.std.specs.Option.{option_copied};
 ghost use Rattle.sw_scripted.specs.Making.{move_for};
 ghost use Rattle.sw_scripted.specs.Taken.{given_by, text_seen};
-ghost use Rattle.sw_scripted.specs.Scripted.{rule_at, rest_at, moves_on, next_of};
+ghost use Rattle.sw_scripted.specs.Scripted.{rule_at, rest_at, moves_by, moves_on, next_of};
 ghost use Rattle.sw_scripted.specs.Steps.{first_due, kept};
 
 use crate::fitting::{bytes_of, first_fit, kind_of, session_of};
@@ -26,15 +26,15 @@ pub struct Playing {
     /// The event's session, where it is about one.
     session: Option<Session>,
     /// The event's bytes, where an act that is still to come uses them.
-    data: Octets,
+    bytes: Octets,
 }
 
 /// The bytes behind the rule's prefix.
-fn tail<'a>(rule: &Rule, data: &'a [u8]) -> &'a [u8]
-    ensures { result.now ≡ drop (length rule.now.prefix) data.now }
+fn tail<'a>(rule: &Rule, bytes: &'a [u8]) -> &'a [u8]
+    ensures { result.now ≡ drop (length rule.now.prefix) bytes.now }
 {
-    let n = rule.prefix.len().min(data.len());
-    &data[n..]
+    let n = rule.prefix.len().min(bytes.len());
+    &bytes[n..]
 }
 
 /// The act of a rule at this place, and the place behind it; none behind the last one.
@@ -62,6 +62,24 @@ fn kept(alloc: Global, rule: &Rule, bytes: &[u8]) -> Result<Octets, OutOfMemory>
     }
 }
 
+/// The first act of a rule on an event, and its place behind.
+fn first(
+    alloc: Global,
+    rule: &Rule,
+    event: &Event,
+) -> Result<Option<(Act, usize)>, OutOfMemory>
+    ensures { IfOk result (λ a. a ≡ first_due 0 (moves_by event.now (Some rule.now)) []) }
+{
+    let bytes = bytes_of(event);
+    let from = Taken {
+        session: session_of(event),
+        bytes,
+        tail: tail(rule, bytes),
+        answer: None,
+    };
+    act_in(alloc, rule, 0, &from)
+}
+
 /// The first act on an event, and where the handler stands then. Without a rule that fits it is done, and follows none.
 pub fn begun(
     alloc: Global,
@@ -71,31 +89,24 @@ pub fn begun(
     ensures { IfOk result (λ r. (r.0, rest_at script.now r.1) ≡ next_of [] (moves_on script.now event.now)) }
 {
     let on = kind_of(event);
-    let bytes = bytes_of(event);
-    let session = session_of(event);
     let rules = script.rules(on).as_slice();
-    let Some(at) = first_fit(rules, bytes) else {
+    let Some(at) = first_fit(rules, bytes_of(event)) else {
         return Ok((Act::Done, None));
     };
     let rule = &rules[at];
-    let from = Taken {
-        session,
-        data: bytes,
-        tail: tail(rule, bytes),
-        answer: None,
-    };
-    let Some((act, made)) = act_in(alloc, rule, 0, &from)? else {
-        return Ok((Act::Done, None));
-    };
-    let data = kept(alloc, rule, bytes)?;
-    let playing = Playing {
-        on,
-        rule: at,
-        made,
-        session,
-        data,
-    };
-    Ok((act, Some(playing)))
+    match first(alloc, rule, event)? {
+        None => Ok((Act::Done, None)),
+        Some((act, made)) => {
+            let playing = Playing {
+                on,
+                rule: at,
+                made,
+                session: session_of(event),
+                bytes: kept(alloc, rule, bytes_of(event))?,
+            };
+            Ok((act, Some(playing)))
+        }
+    }
 }
 
 impl Playing {
@@ -124,11 +135,11 @@ impl Playing {
         let Some(rule) = self.rule(script) else {
             return Ok(None);
         };
-        let data = self.data.bytes();
+        let bytes = self.bytes.bytes();
         let from = Taken {
             session: self.session,
-            data,
-            tail: tail(rule, data),
+            bytes,
+            tail: tail(rule, bytes),
             answer: Some(answer),
         };
         act_in(alloc, rule, self.made, &from)

@@ -1,4 +1,4 @@
-use Rattle.std.proofs.Common.{◌≡◌, ◌+◌, ◌-◌, ◌++◌, ◌∷◌, [], Option, Some, None, sym, ap, ◌∙◌, arith}
+use Rattle.std.proofs.Common.{◌≡◌, ◌+◌, ◌-◌, ◌++◌, ◌∷◌, [], Some, None, sym, ◌∙◌, arith}
 use Rattle.std.specs.Option.{option_copied}
 use Rattle.sw_script.specs.Moves.{move_of}
 use Rattle.sw_script.specs.Parts.{first_act}
