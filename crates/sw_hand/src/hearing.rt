@@ -1,0 +1,73 @@
+//! Giving the handler what it waits for.
+
+ghost use Rattle.std.specs.Prelude.{◌≡◌, map};
+
+use crate::hand::Hand;
+use crate::stage::{Current, Stage};
+use std::alloc::Global;
+use sw_base::Counter;
+use sw_data::{Act, Answer, Given};
+use sw_handler::Handler;
+use sw_port_board::Board;
+
+impl<H: Handler> Hand<H> {
+    ghost use Rattle.std.specs.Prelude.{◌≡◌, map};
+    ghost use Rattle.sw_hand.specs.Hand.{IsHand};
+    ghost use Rattle.sw_hand.specs.Hearing.{Fails, Hears, AtOnce, Counts};
+
+    /// Gives the handler at hand an event or an answer, and takes its act. Where it finds no memory the hand is lost, the stop
+    /// word is set, and from then on every act is `Done`.
+    pub(crate) fn hear<C: Board>(&mut self, alloc: Global, board: &mut C, given: &Given) -> Act
+        requires { IsHand self.old }
+        ensures hears { Hears H.acts C.goes self.old board.old given.now result self.new board.new }
+        ensures kept { IsHand self.new }
+        ensures sizes { C.sizes board.new ≡ C.sizes board.old }
+    {
+        if self.lost {
+            return Act::Done;
+        }
+        match self.handlers.next(alloc, given) {
+            Ok(act) => act,
+            Err(_) => {
+                self.lost = true;
+                board.stop();
+                Act::Done
+            }
+        }
+    }
+
+    /// Gives the handler an answer, and keeps its next act.
+    pub(crate) fn at_once<C: Board>(
+        &mut self,
+        alloc: Global,
+        board: &mut C,
+        current: Current,
+        answer: Answer,
+    )
+        requires { IsHand self.old }
+        ensures gives { AtOnce H.acts C.goes self.old board.old current answer self.new board.new }
+        ensures kept { IsHand self.new }
+        ensures sizes { C.sizes board.new ≡ C.sizes board.old }
+    {
+        let act = self.hear(alloc, board, &Given::Answer(answer));
+        self.stage = Stage::Acting(current, act);
+    }
+
+    /// Raises a counter and gives the answer.
+    pub(crate) fn count<C: Board>(
+        &mut self,
+        alloc: Global,
+        board: &mut C,
+        counter: Counter,
+        current: Current,
+        answer: Answer,
+    )
+        requires { IsHand self.old }
+        ensures counts { Counts H.acts C.goes counter self.old board.old current answer self.new board.new }
+        ensures kept { IsHand self.new }
+        ensures sizes { C.sizes board.new ≡ C.sizes board.old }
+    {
+        board.add(counter);
+        self.at_once(alloc, board, current, answer);
+    }
+}
