@@ -3,16 +3,19 @@
 #![tactic(auto)]
 
 mod asking;
+mod calling;
 mod hand;
-mod handlers;
 mod hearing;
 mod house;
+mod leaving;
 mod owned;
+mod posting;
 mod reaching;
 mod stage;
+mod taking;
+mod turn;
 
 pub use hand::Hand;
-pub use handlers::Handlers;
 pub use house::{House, Kind};
 pub use owned::Owned;
-pub use stage::{Current, Stage};
+pub use stage::{Current, Errand, Stage};

@@ -1,7 +1,10 @@
 //! Acts on a session.
 
+ghost use Rattle.std.specs.Prelude.{◌≡◌};
+ghost use Rattle.sw_hand.specs.Reaching.{bound_by, refused_by};
+
 use crate::hand::Hand;
-use crate::stage::Current;
+use crate::stage::{Current, Errand};
 use std::alloc::Global;
 use sw_base::Session;
 use sw_data::{Answer, Ask, Msg, Target};
@@ -9,24 +12,31 @@ use sw_handler::Handler;
 use sw_port_board::Board;
 use sw_port_book::{BindFault, Book, Look};
 
-impl<H: Handler> Hand<H> {
-    ghost use Rattle.std.specs.Prelude.{◌≡◌};
-    ghost use Rattle.sw_port_book.specs.Answers.{Keeps};
-    ghost use Rattle.sw_hand.specs.Hand.{IsHand, is_own};
-    ghost use Rattle.sw_hand.specs.Reaching.{Reaches, TellsExist, TellsInfo, BindsOf, info_known};
-
-    /// Tells whether a session is the hand's own.
-    pub(crate) fn is_own(&self, current: &Current, session: Session) -> bool
-        requires { IsHand self.now }
-        ensures { result ≡ is_own self.now current.now session }
-    {
-        if self.house.keeps() {
-            self.own
-                .has(session.number() % self.house.max_conn, session)
-        } else {
-            current.is_of(session)
-        }
+/// What a refused bind is answered.
+fn refused(fault: BindFault) -> Answer
+    ensures { result ≡ refused_by fault }
+{
+    match fault {
+        BindFault::BadUid => Answer::BadUid,
+        BindFault::Other(seen) => Answer::NoSession(seen),
+        BindFault::Bound(uid) => Answer::Bound(uid),
     }
+}
+
+/// What a bind is answered.
+fn bound(got: Result<(), BindFault>) -> Answer
+    ensures { result ≡ bound_by got }
+{
+    match got {
+        Ok(()) => Answer::BindOk,
+        Err(fault) => refused(fault),
+    }
+}
+
+impl<H> Hand<H> {
+    ghost use Rattle.std.specs.Prelude.{◌≡◌};
+    ghost use Rattle.sw_hand.specs.Hand.{IsHand};
+    ghost use Rattle.sw_hand.specs.Reaching.{info_known};
 
     /// Tells whether a session's uid is known without a look: it is the hand's own, and no uid is ever bound.
     fn is_known(&self, current: &Current, session: Session) -> bool
@@ -39,6 +49,14 @@ impl<H: Handler> Hand<H> {
             self.is_own(current, session)
         }
     }
+}
+
+impl<H: Handler> Hand<H> {
+    ghost use Rattle.std.specs.Prelude.{◌≡◌};
+    ghost use Rattle.sw_port_book.specs.Answers.{Keeps};
+    ghost use Rattle.sw_hand.specs.Stage.{HasId};
+    ghost use Rattle.sw_hand.specs.Hand.{IsHand, Stays};
+    ghost use Rattle.sw_hand.specs.Reaching.{Reaches, TellsExist, TellsInfo, BindsOf};
 
     /// Pushes a message to the session's reactor: at once where the session is the hand's own, and else where a look finds it.
     pub(crate) fn reach<B: Book, C: Board, L: Drop, K: Drop>(
@@ -48,21 +66,23 @@ impl<H: Handler> Hand<H> {
         board: &mut C,
         current: Current,
         session: Session,
+        errand: Errand,
         message: Msg<L, K>,
-        answer: Answer,
     ) -> Ask<Msg<L, K>>
-        requires { IsHand self.old }
-        ensures reaches { Reaches B.look_finds H.acts C.goes self.old book.old board.old current session message answer self.new book.new board.new result }
+        requires hand { IsHand self.old }
+        requires id { HasId self.old.next errand }
+        ensures reaches { Reaches B.look_finds H.acts C.goes self.old book.old board.old current session errand message self.new book.new board.new result }
         ensures kept { IsHand self.new }
+        ensures stays { Stays H.made self.old self.new }
         ensures book { Keeps B.size B.holds book.old book.new }
         ensures sizes { C.sizes board.new ≡ C.sizes board.old }
     {
         let to = Target::Reactor(self.house.reactor_of(session));
         if self.is_own(&current, session) {
-            return self.ask(current, to, message, answer);
+            return self.ask(current, to, errand, message);
         }
         match book.look(session) {
-            Look::Live(_) => self.ask(current, to, message, answer),
+            Look::Live(_) => self.ask(current, to, errand, message),
             Look::Other(seen) => self.answer(alloc, board, current, Answer::NoSession(seen)),
         }
     }
@@ -79,6 +99,7 @@ impl<H: Handler> Hand<H> {
         requires { IsHand self.old }
         ensures tells { TellsExist B.look_finds H.acts C.goes self.old book.old board.old current session self.new book.new board.new result }
         ensures kept { IsHand self.new }
+        ensures stays { Stays H.made self.old self.new }
         ensures book { Keeps B.size B.holds book.old book.new }
         ensures sizes { C.sizes board.new ≡ C.sizes board.old }
     {
@@ -103,10 +124,11 @@ impl<H: Handler> Hand<H> {
         requires { IsHand self.old }
         ensures tells { TellsInfo B.look_finds H.acts C.goes self.old book.old board.old current session self.new book.new board.new result }
         ensures kept { IsHand self.new }
+        ensures stays { Stays H.made self.old self.new }
         ensures book { Keeps B.size B.holds book.old book.new }
         ensures sizes { C.sizes board.new ≡ C.sizes board.old }
     {
-        let fd = session.number() % self.house.max_conn;
+        let fd = self.house.fd_of(session);
         if self.is_known(&current, session) {
             return self.answer(alloc, board, current, Answer::Info(fd, 0));
         }
@@ -129,27 +151,14 @@ impl<H: Handler> Hand<H> {
         requires { IsHand self.old }
         ensures binds { BindsOf B.bind_finds H.acts C.goes self.old book.old board.old current session uid self.new book.new board.new result }
         ensures kept { IsHand self.new }
+        ensures stays { Stays H.made self.old self.new }
         ensures book { Keeps B.size B.holds book.old book.new }
         ensures sizes { C.sizes board.new ≡ C.sizes board.old }
     {
         if self.house.mode != 5 {
             return self.answer(alloc, board, current, Answer::WrongMode);
         }
-        match book.bind(session, uid) {
-            Ok(()) => self.answer(alloc, board, current, Answer::BindOk),
-            Err(BindFault::BadUid) => self.answer(alloc, board, current, Answer::BadUid),
-            Err(BindFault::Other(seen)) => self.answer(
-                alloc,
-                board,
-                current,
-                Answer::NoSession(seen),
-            ),
-            Err(BindFault::Bound(bound)) => self.answer(
-                alloc,
-                board,
-                current,
-                Answer::Bound(bound),
-            ),
-        }
+        let got = book.bind(session, uid);
+        self.answer(alloc, board, current, bound(got))
     }
 }
