@@ -8,18 +8,21 @@ use Rattle.sw_hand.specs.House.{IsHouse, keeps, fd_of, farewells, enders}
 use Rattle.sw_hand.specs.Stage.{is_of, Fits}
 use Rattle.sw_hand.specs.declared.hand.Hand.{Hand}
 use Rattle.sw_hand.specs.declared.house.House.{House}
+use Rattle.sw_hand.specs.declared.house.Kind.{Kind}
+use Rattle.sw_hand.specs.declared.house.Kind.TheVariants.{Worker, Tasker}
 use Rattle.sw_hand.specs.declared.stage.Current.{Current}
 use Rattle.sw_hand.specs.declared.stage.Current.TheVariants.{Connect, Packet, Closed, Finish, Task}
 use Rattle.sw_hand.specs.declared.stage.Stage.TheVariants.{Idle}
 
--- the own sessions have room for each descriptor where each connection keeps its worker
-abbrev pub own_room : House → ℕ
-own_room h = if keeps h then h.max_conn else 0
+-- a worker's own sessions have room for each descriptor where each connection keeps its worker
+abbrev pub own_room : House → Kind → ℕ
+own_room h (Worker w) = if keeps h then h.max_conn else 0
+own_room h (Tasker k) = 0
 
 -- what every turn may rely on and keeps
 pub record IsHand {H : Type 0} (h : Hand H) : Type 0 where
   pub house : IsHouse h.house
-  pub own : length h.own ≡ own_room h.house
+  pub own : length h.own ≡ own_room h.house h.kind
   pub out : h.out ≤ h.next
   pub ended : h.ended ≤ enders h.house h.kind
   pub stage : Fits h.next (farewells h.house h.kind) h.stage

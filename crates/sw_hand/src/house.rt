@@ -51,11 +51,14 @@ impl House {
         self.mode == 2 || self.mode == 4
     }
 
-    /// For how many descriptors a worker keeps its own sessions.
-    pub fn own_room(&self) -> u32
-        ensures { result ≡ own_room self.now }
+    /// For how many descriptors a hand keeps its own sessions.
+    pub fn own_room(&self, kind: Kind) -> u32
+        ensures { result ≡ own_room self.now kind }
     {
-        if self.keeps() { self.max_conn } else { 0 }
+        match kind {
+            Kind::Worker(_) => if self.keeps() { self.max_conn } else { 0 },
+            Kind::Tasker(_) => 0,
+        }
     }
 
     /// Gives the descriptor of a session: its number modulo the greatest number of connections.

@@ -1,6 +1,6 @@
 //! The sessions that are a worker's own, where each connection keeps its worker.
 
-ghost use Rattle.std.specs.Prelude.{◌≡◌, ◌<◌, ◌==◌, ℕ, length, replicate, slice_index_or, slice_set, IfOk};
+ghost use Rattle.std.specs.Prelude.{◌≡◌, ◌<◌, ◌==◌, ℕ, [], length, replicate, slice_index_or, slice_set, IfOk};
 
 use std::alloc::Global;
 use std::marker::Model;
@@ -28,6 +28,15 @@ impl Owned {
     {
         let slots = Vec::from_elem(alloc, 0, slots as usize)?;
         Ok(Owned { slots })
+    }
+
+    /// No session, and no room. It takes no memory.
+    pub fn none(alloc: Global) -> Owned
+        ensures { result ≡ [] }
+    {
+        Owned {
+            slots: Vec::new(alloc),
+        }
     }
 
     /// How many descriptors there are.
