@@ -1,5 +1,5 @@
 -- Calls of the Table, sums of the counters, and the server's end.
-use Rattle.std.specs.Prelude.{◌≡◌, ◌⊎◌, ℕ, Bool, true, false, List, [], ◌∷◌, Result, Ok, Err}
+use Rattle.std.specs.Prelude.{◌≡◌, ◌⊎◌, ℕ, Bool, true, false, if◌then◌else◌, List, [], ◌∷◌, Result, Ok, Err}
 use Rattle.sw_base.specs.declared.counter.Counter.{Counter}
 use Rattle.sw_base.specs.declared.table.Value.{Value}
 use Rattle.sw_base.specs.declared.table.Call.{Call}
@@ -53,19 +53,23 @@ CallsRefused false acts goes fault h b c call k d ask = Answers acts goes h b c 
 abbrev pub Starves : {H C L K : Type 0} → Going C → Hand H → C → Current → Hand H → C → Ask (Msg L K) → Type 0
 Starves goes h b c k d ask = (k ≡ record h { lost = true; stage = Acting c Done }) × goes b (Stopped ∷ []) d × (ask ≡ AskNothing)
 
--- the answer to a call that took a place has the row's values where it was found
-abbrev pub CallsPlaced : {H C L K : Type 0} → Bool → Handling H → Going C → Placed → List Value → Hand H → C → Current → Hand H → C → Ask (Msg L K) → Type 0
-CallsPlaced true acts goes p row h b c k d ask = Answers acts goes h b c (TableAnswer p.at p.reply row) k d ask ⊎ Starves goes h b c k d ask
-CallsPlaced false acts goes p row h b c k d ask = Answers acts goes h b c (TableAnswer p.at p.reply []) k d ask
+-- the row's values where it was found
+abbrev pub cells_of : Reply → List Value → List Value
+cells_of reply row = if is_found reply then row else []
 
-abbrev pub CallsSeen : {H C L K : Type 0} → Handling H → Going C → Result Placed CallFault → List Value → Hand H → C → Current → Call → Hand H → C → Ask (Msg L K) → Type 0
-CallsSeen acts goes (Ok p) row h b c call k d ask = CallsPlaced (is_found p.reply) acts goes p row h b c k d ask
-CallsSeen acts goes (Err f) row h b c call k d ask = CallsRefused (is_busy f) acts goes f h b c call k d ask
+-- the answer to a call that took a place; only the copy of a row takes memory
+abbrev pub CallsPlaced : {H C L K : Type 0} → Handling H → Going C → Placed → Hand H → C → Current → Hand H → C → Ask (Msg L K) → Type 0
+CallsPlaced acts goes p h b c k d ask =
+    Answers acts goes h b c (TableAnswer p.at p.reply (cells_of p.reply h.row)) k d ask ⊎ ((is_found p.reply ≡ true) × Starves goes h b c k d ask)
+
+abbrev pub CallsSeen : {H C L K : Type 0} → Handling H → Going C → Result Placed CallFault → Hand H → C → Current → Call → Hand H → C → Ask (Msg L K) → Type 0
+CallsSeen acts goes (Ok p) h b c call k d ask = CallsPlaced acts goes p h b c k d ask
+CallsSeen acts goes (Err f) h b c call k d ask = CallsRefused (is_busy f) acts goes f h b c call k d ask
 
 -- a call of the Table, where there is one
 abbrev pub CallsAs : {H S C L K : Type 0} → Bool → Calling S → Handling H → Going C → Hand H → S → C → Current → Call → Hand H → S → C → Ask (Msg L K) → Type 0
 CallsAs true gives acts goes h s b c call k t d ask =
-    (r : Result Placed CallFault) × ((row : List Value) × (gives s call t h.row row r × CallsSeen acts goes r row (record h { row = row }) b c call k d ask))
+    (r : Result Placed CallFault) × ((row : List Value) × (gives s call t h.row row r × CallsSeen acts goes r (record h { row = row }) b c call k d ask))
 CallsAs false gives acts goes h s b c call k t d ask = Answers acts goes h b c NoTable k d ask × (t ≡ s)
 
 abbrev pub Calls : {H S C L K : Type 0} → Calling S → Handling H → Going C → Hand H → S → C → Current → Call → Hand H → S → C → Ask (Msg L K) → Type 0

@@ -36,8 +36,16 @@ abbrev pub HasRow : List Column → House → List Value → Type 0
 HasRow columns h row = h.table ≡ true → HasKinds columns row
 
 -- the house and the hand's kind never change, nor what its handler was made with
+abbrev pub Lasts : {H M : Type 0} → (H → M) → Hand H → Hand H → Type 0
+Lasts made h k = (k.house ≡ h.house) × (k.kind ≡ h.kind) × (made k.handler ≡ made h.handler)
+
+-- nor the row's buffer, but for a call of the Table
 abbrev pub Stays : {H M : Type 0} → (H → M) → Hand H → Hand H → Type 0
-Stays made h k = (k.house ≡ h.house) × (k.kind ≡ h.kind) × (made k.handler ≡ made h.handler)
+Stays made h k = (k.house ≡ h.house) × (k.kind ≡ h.kind) × (made k.handler ≡ made h.handler) × (k.row ≡ h.row)
+
+-- nor the handler, but where it is given something
+abbrev pub Same : {H : Type 0} → Hand H → Hand H → Type 0
+Same h k = (k.house ≡ h.house) × (k.kind ≡ h.kind) × (k.handler ≡ h.handler) × (k.row ≡ h.row)
 
 -- a hand without a stage of its own: a turn takes the stage first
 abbrev pub unstaged : {H : Type 0} → Hand H → Hand H

@@ -58,10 +58,19 @@ PostsAs None acts goes sizes h b c dst bytes k d ask =
 abbrev pub Posts : {H C L K : Type 0} → Handling H → Going C → (C → Sizes) → Hand H → C → Current → Dst → List ℕ → Hand H → C → Ask (Msg L K) → Type 0
 Posts acts goes sizes h b c dst bytes k d ask = PostsAs (post_refusal h.kind h.house h.next dst) acts goes sizes h b c dst bytes k d ask
 
+-- the poster of the task at hand, and the task's id
+abbrev pub poster_of : Current → Option (ℕ × ℕ)
+poster_of (Connect s) = None
+poster_of (Packet s) = None
+poster_of (Closed s) = None
+poster_of Finish = None
+poster_of (Task w id) = Some (w, id)
+
 -- bytes go back to the task's poster, under the task's id; outside a task there is none
+abbrev pub FinishesAs : {H C L K : Type 0} → Option (ℕ × ℕ) → Handling H → Going C → Hand H → C → Current → List ℕ → Hand H → C → Ask (Msg L K) → Type 0
+FinishesAs None acts goes h b c bytes k d ask = Answers acts goes h b c NotHere k d ask
+FinishesAs (Some (w, id)) acts goes h b c bytes k d ask =
+    Asks h c (targets.Worker w) errands.Finish (EventMsg (events.Finish id bytes)) k ask × (d ≡ b)
+
 abbrev pub Finishes : {H C L K : Type 0} → Handling H → Going C → Hand H → C → Current → List ℕ → Hand H → C → Ask (Msg L K) → Type 0
-Finishes acts goes h b (Task w id) bytes k d ask = Asks h (Task w id) (targets.Worker w) errands.Finish (EventMsg (events.Finish id bytes)) k ask × (d ≡ b)
-Finishes acts goes h b (Connect s) bytes k d ask = Answers acts goes h b (Connect s) NotHere k d ask
-Finishes acts goes h b (Packet s) bytes k d ask = Answers acts goes h b (Packet s) NotHere k d ask
-Finishes acts goes h b (Closed s) bytes k d ask = Answers acts goes h b (Closed s) NotHere k d ask
-Finishes acts goes h b Finish bytes k d ask = Answers acts goes h b Finish NotHere k d ask
+Finishes acts goes h b c bytes k d ask = FinishesAs (poster_of c) acts goes h b c bytes k d ask

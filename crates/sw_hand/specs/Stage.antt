@@ -1,5 +1,5 @@
 -- The event at hand, and what a push is for.
-use Rattle.std.specs.Prelude.{ℕ, ◌<◌, ◌-◌, ◌^◌, ◌==◌, Bool, true, false, Option, Some, None}
+use Rattle.std.specs.Prelude.{ℕ, ◌<◌, ◌-◌, ◌^◌, ◌==◌, if◌then◌else◌, Bool, true, false, Option, Some, None}
 use Rattle.sw_base.specs.declared.counter.Counter.{Counter}
 use Rattle.sw_base.specs.declared.counter.Counter.TheVariants as counters
 use Rattle.sw_data.specs.declared.answers.Answer.{Answer}

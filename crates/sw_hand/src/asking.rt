@@ -10,8 +10,8 @@ use sw_port_board::Board;
 impl<H> Hand<H> {
     ghost use Rattle.std.specs.Prelude.{◌≡◌};
     ghost use Rattle.sw_hand.specs.Stage.{HasId};
-    ghost use Rattle.sw_hand.specs.Hand.{IsHand};
-    ghost use Rattle.sw_hand.specs.Asking.{Asks, Waits};
+    ghost use Rattle.sw_hand.specs.Hand.{IsHand, Same};
+    ghost use Rattle.sw_hand.specs.Asking.{Asks};
 
     /// Asks for a push, and keeps what it is for.
     pub(crate) fn ask<L, K>(
@@ -24,6 +24,7 @@ impl<H> Hand<H> {
         requires hand { IsHand self.old }
         requires id { HasId self.old.next errand }
         ensures asks { Asks self.old current to errand message self.new result }
+        ensures same { Same self.old self.new }
         ensures kept { IsHand self.new }
     {
         self.stage = Stage::Sending(current, to, errand);

@@ -6,7 +6,7 @@ ghost use Rattle.sw_hand.specs.Calling.{is_busy, is_found};
 use crate::hand::Hand;
 use crate::stage::{Current, Stage};
 use std::alloc::Global;
-use sw_base::{Call, CallFault, Cells, Counter, Reply};
+use sw_base::{Call, CallFault, Cells, Counter, OutOfMemory, Reply};
 use sw_data::{Act, Answer, Ask, Msg};
 use sw_handler::Handler;
 use sw_port_board::Board;
@@ -45,9 +45,9 @@ fn is_found(reply: Reply) -> bool
 }
 
 impl<H: Handler> Hand<H> {
-    ghost use Rattle.std.specs.Prelude.{◌≡◌};
-    ghost use Rattle.sw_hand.specs.Hand.{IsHand, HasRow, Stays};
-    ghost use Rattle.sw_hand.specs.Calling.{is_busy, is_found, CallsRefused, CallsPlaced, CallsSeen, Calls, Starves, Sums, Shuts};
+    ghost use Rattle.std.specs.Prelude.{◌≡◌, true, IfOk, OnErr};
+    ghost use Rattle.sw_hand.specs.Hand.{IsHand, HasRow, Lasts, Stays};
+    ghost use Rattle.sw_hand.specs.Calling.{is_busy, is_found, CallsRefused, CallsPlaced, cells_of, Calls, Starves, Sums, Shuts};
 
     /// Gives up for want of memory: the stop word is set, and the act is `Done`.
     fn starve<C: Board, L, K>(&mut self, board: &mut C, current: Current) -> Ask<Msg<L, K>>
@@ -85,7 +85,18 @@ impl<H: Handler> Hand<H> {
         self.answer(alloc, board, current, Answer::TableRefused(fault))
     }
 
-    /// The answer to a call that took a place has the row's values where it was found.
+    /// The row's values where it was found.
+    fn cells(&self, alloc: Global, reply: Reply) -> Result<Cells, OutOfMemory>
+        ensures ok { IfOk result (λ cells. cells ≡ cells_of reply self.now.row) }
+        ensures err { OnErr result (is_found reply ≡ true) }
+    {
+        if !is_found(reply) {
+            return Ok(Cells::new(alloc));
+        }
+        self.row.cells()
+    }
+
+    /// The answer to a call that took a place.
     fn tell<C: Board, L, K>(
         &mut self,
         alloc: Global,
@@ -94,21 +105,12 @@ impl<H: Handler> Hand<H> {
         placed: Placed,
     ) -> Ask<Msg<L, K>>
         requires { IsHand self.old }
-        ensures told { CallsPlaced (is_found placed.reply) H.acts C.goes placed self.old.row self.old board.old current self.new board.new result }
+        ensures told { CallsPlaced H.acts C.goes placed self.old board.old current self.new board.new result }
         ensures kept { IsHand self.new }
         ensures stays { Stays H.made self.old self.new }
         ensures sizes { C.sizes board.new ≡ C.sizes board.old }
     {
-        if !is_found(placed.reply) {
-            let none = Cells::new(alloc);
-            return self.answer(
-                alloc,
-                board,
-                current,
-                Answer::Table(placed.at, placed.reply, none),
-            );
-        }
-        match self.row.cells() {
+        match self.cells(alloc, placed.reply) {
             Ok(cells) => self.answer(
                 alloc,
                 board,
@@ -132,7 +134,7 @@ impl<H: Handler> Hand<H> {
         requires row { HasRow (S.columns shelf.old) self.old.house self.old.row }
         ensures calls { Calls S.call_gives H.acts C.goes self.old shelf.old board.old current call self.new shelf.new board.new result }
         ensures kept { IsHand self.new }
-        ensures stays { Stays H.made self.old self.new }
+        ensures lasts { Lasts H.made self.old self.new }
         ensures row { HasRow (S.columns shelf.new) self.new.house self.new.row }
         ensures columns { S.columns shelf.new ≡ S.columns shelf.old }
         ensures sizes { C.sizes board.new ≡ C.sizes board.old }

@@ -64,13 +64,14 @@ fn tasker_words<L, K>(current: &Current) -> Option<(Target, Msg<L, K>)>
 impl<H> Hand<H> {
     ghost use Rattle.std.specs.Prelude.{◌≡◌, ◌<◌, ◌≤◌, IsTrue};
     ghost use Rattle.sw_hand.specs.House.{farewells};
-    ghost use Rattle.sw_hand.specs.Hand.{IsHand, own_less, own_without};
+    ghost use Rattle.sw_hand.specs.Hand.{IsHand, Same, own_less, own_without};
     ghost use Rattle.sw_hand.specs.Leaving.{Ends, Leaves, StopsAt, Stops, GoesOn, may_stop};
 
     /// Ends an event: its last words are pushed, and an event without them is over.
     pub(crate) fn end<L, K>(&mut self, current: Current) -> Ask<Msg<L, K>>
         requires { IsHand self.old }
         ensures ends { Ends self.old current self.new result }
+        ensures same { Same self.old self.new }
         ensures kept { IsHand self.new }
     {
         match self.house.last_words(self.kind, &current) {
@@ -89,6 +90,7 @@ impl<H> Hand<H> {
     fn disown(&mut self, session: Session)
         requires { IsHand self.old }
         ensures less { self.new ≡ record self.old { own = own_without self.old.house self.old.own session } }
+        ensures same { Same self.old self.new }
         ensures kept { IsHand self.new }
     {
         let fd = self.house.fd_of(session);
@@ -101,6 +103,7 @@ impl<H> Hand<H> {
     fn disown_event(&mut self, current: &Current)
         requires { IsHand self.old }
         ensures less { self.new ≡ record self.old { own = own_less self.old.house self.old.own current.now } }
+        ensures same { Same self.old self.new }
         ensures kept { IsHand self.new }
     {
         match current {
@@ -121,6 +124,7 @@ impl<H> Hand<H> {
     ) -> Ask<Msg<L, K>>
         requires { IsHand self.old }
         ensures leaves { Leaves self.old current to got self.new result }
+        ensures same { Same self.old self.new }
         ensures kept { IsHand self.new }
     {
         match got {
@@ -144,6 +148,7 @@ impl<H> Hand<H> {
     fn stop_at<L, K>(&mut self, n: u32) -> Ask<Msg<L, K>>
         requires { IsHand self.old }
         ensures stops { StopsAt self.old n self.new result }
+        ensures same { Same self.old self.new }
         ensures kept { IsHand self.new }
     {
         if n < self.house.farewells(self.kind) {
@@ -160,6 +165,7 @@ impl<H> Hand<H> {
         requires hand { IsHand self.old }
         requires some { n < farewells self.old.house self.old.kind }
         ensures stops { Stops self.old n got self.new result }
+        ensures same { Same self.old self.new }
         ensures kept { IsHand self.new }
     {
         match got {
@@ -179,6 +185,7 @@ impl<H> Hand<H> {
     pub(crate) fn go_on<L, K>(&mut self) -> Ask<Msg<L, K>>
         requires { IsHand self.old }
         ensures goes { GoesOn self.old self.new result }
+        ensures same { Same self.old self.new }
         ensures kept { IsHand self.new }
     {
         if self.may_stop() {

@@ -1,6 +1,6 @@
 //! Tasks and what comes back of them.
 
-ghost use Rattle.std.specs.Prelude.{◌≡◌, ◌<◌, None};
+ghost use Rattle.std.specs.Prelude.{◌≡◌, ◌<◌, ◌-◌, ◌^◌, None};
 
 use crate::hand::Hand;
 use crate::house::Kind;
@@ -11,8 +11,26 @@ use sw_data::{Answer, Ask, Dst, Event, Msg, Target};
 use sw_handler::Handler;
 use sw_port_board::{Board, Crew};
 
+impl Current {
+    ghost use Rattle.std.specs.Prelude.{◌≡◌};
+    ghost use Rattle.sw_hand.specs.Posting.{poster_of};
+
+    /// The poster of the task at hand, and the task's id; None outside a task.
+    fn poster(&self) -> Option<(u32, u64)>
+        ensures { result ≡ poster_of self.now }
+    {
+        match self {
+            Current::Connect(_) => None,
+            Current::Packet(_) => None,
+            Current::Closed(_) => None,
+            Current::Finish => None,
+            Current::Task(w, id) => Some((*w, *id)),
+        }
+    }
+}
+
 impl<H> Hand<H> {
-    ghost use Rattle.std.specs.Prelude.{◌≡◌, ◌<◌, None};
+    ghost use Rattle.std.specs.Prelude.{◌≡◌, ◌<◌, ◌-◌, ◌^◌, None};
     ghost use Rattle.sw_hand.specs.Hand.{IsCrew};
     ghost use Rattle.sw_hand.specs.Posting.{is_there, worker_refusal, post_refusal, FindsPlace};
 
@@ -28,7 +46,8 @@ impl<H> Hand<H> {
 
     /// Why a worker posts no task: the first reason that applies.
     fn worker_refusal(&self, dst: Dst) -> Option<Answer>
-        ensures { result ≡ worker_refusal self.now.house self.now.next dst }
+        ensures first { result ≡ worker_refusal self.now.house self.now.next dst }
+        ensures id { result ≡ None → self.now.next < 2 ^ 64 - 1 }
     {
         if self.house.taskers == 0 {
             return Some(Answer::NoTaskWorkers);
@@ -44,7 +63,8 @@ impl<H> Hand<H> {
 
     /// Why no task is posted here.
     fn post_refusal(&self, dst: Dst) -> Option<Answer>
-        ensures { result ≡ post_refusal self.now.kind self.now.house self.now.next dst }
+        ensures first { result ≡ post_refusal self.now.kind self.now.house self.now.next dst }
+        ensures id { result ≡ None → self.now.next < 2 ^ 64 - 1 }
     {
         match self.kind {
             Kind::Worker(_) => self.worker_refusal(dst),
@@ -120,8 +140,9 @@ impl<H: Handler> Hand<H> {
         ensures stays { Stays H.made self.old self.new }
         ensures sizes { C.sizes board.new ≡ C.sizes board.old }
     {
-        match current {
-            Current::Task(w, id) => {
+        match current.poster() {
+            None => self.answer(alloc, board, current, Answer::NotHere),
+            Some((w, id)) => {
                 let finish = Event::Finish(id, bytes);
                 self.ask(
                     current,
@@ -130,10 +151,6 @@ impl<H: Handler> Hand<H> {
                     Msg::Event(finish),
                 )
             }
-            Current::Connect(_) => self.answer(alloc, board, current, Answer::NotHere),
-            Current::Packet(_) => self.answer(alloc, board, current, Answer::NotHere),
-            Current::Closed(_) => self.answer(alloc, board, current, Answer::NotHere),
-            Current::Finish => self.answer(alloc, board, current, Answer::NotHere),
         }
     }
 }

@@ -4,6 +4,7 @@ ghost use Rattle.std.specs.Prelude.{◌≡◌};
 ghost use Rattle.sw_hand.specs.Reaching.{bound_by, refused_by};
 
 use crate::hand::Hand;
+use crate::house::House;
 use crate::stage::{Current, Errand};
 use std::alloc::Global;
 use sw_base::Session;
@@ -30,6 +31,20 @@ fn bound(got: Result<(), BindFault>) -> Answer
     match got {
         Ok(()) => Answer::BindOk,
         Err(fault) => refused(fault),
+    }
+}
+
+impl House {
+    ghost use Rattle.std.specs.Prelude.{◌≡◌};
+    ghost use Rattle.sw_data.specs.declared.answers.Answer.TheVariants.{Info};
+    ghost use Rattle.sw_hand.specs.House.{IsHouse, fd_of};
+
+    /// What is known of a session that is there.
+    fn known(&self, session: Session, uid: u32) -> Answer
+        requires { IsHouse self.now }
+        ensures { result ≡ Info (fd_of self.now session) uid }
+    {
+        Answer::Info(self.fd_of(session), uid)
     }
 }
 
@@ -128,12 +143,15 @@ impl<H: Handler> Hand<H> {
         ensures book { Keeps B.size B.holds book.old book.new }
         ensures sizes { C.sizes board.new ≡ C.sizes board.old }
     {
-        let fd = self.house.fd_of(session);
         if self.is_known(&current, session) {
-            return self.answer(alloc, board, current, Answer::Info(fd, 0));
+            let known = self.house.known(session, 0);
+            return self.answer(alloc, board, current, known);
         }
         match book.look(session) {
-            Look::Live(uid) => self.answer(alloc, board, current, Answer::Info(fd, uid)),
+            Look::Live(uid) => {
+                let known = self.house.known(session, uid);
+                self.answer(alloc, board, current, known)
+            }
             Look::Other(seen) => self.answer(alloc, board, current, Answer::NoSession(seen)),
         }
     }

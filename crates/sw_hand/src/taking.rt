@@ -8,9 +8,9 @@ use sw_handler::Handler;
 use sw_port_board::Board;
 
 impl<H> Hand<H> {
-    ghost use Rattle.std.specs.Prelude.{◌≡◌, ◌<◌};
+    ghost use Rattle.std.specs.Prelude.{◌≡◌, ◌<◌, ◌-◌};
     ghost use Rattle.sw_hand.specs.House.{enders};
-    ghost use Rattle.sw_hand.specs.Hand.{IsHand, own_with};
+    ghost use Rattle.sw_hand.specs.Hand.{IsHand, Same, own_with};
     ghost use Rattle.sw_hand.specs.Stage.{HasId};
     ghost use Rattle.sw_hand.specs.Taking.{noted, ended_more};
 
@@ -20,6 +20,7 @@ impl<H> Hand<H> {
         requires id { HasId self.old.next errand }
         requires stage { self.old.stage ≡ Stage.Idle }
         ensures noted { self.new ≡ noted errand self.old }
+        ensures same { Same self.old self.new }
         ensures kept { IsHand self.new }
     {
         match errand {
@@ -37,6 +38,7 @@ impl<H> Hand<H> {
     fn own_event(&mut self, current: &Current)
         requires { IsHand self.old }
         ensures more { self.new ≡ record self.old { own = own_with self.old.house self.old.own current.now } }
+        ensures same { Same self.old self.new }
         ensures kept { IsHand self.new }
     {
         match current {
@@ -56,6 +58,7 @@ impl<H> Hand<H> {
     fn take_over(&mut self)
         requires { IsHand self.old }
         ensures less { self.new ≡ record self.old { out = self.old.out - 1 } }
+        ensures same { Same self.old self.new }
         ensures kept { IsHand self.new }
     {
         if 0 < self.out {
@@ -67,6 +70,7 @@ impl<H> Hand<H> {
     fn take_end(&mut self)
         requires { IsHand self.old }
         ensures more { self.new ≡ record self.old { ended = ended_more (enders self.old.house self.old.kind) self.old.ended } }
+        ensures same { Same self.old self.new }
         ensures kept { IsHand self.new }
     {
         if self.ended < self.house.enders(self.kind) {

@@ -13,7 +13,7 @@ use sw_port_shelf::Shelf;
 impl<H: Handler> Hand<H> {
     ghost use Rattle.std.specs.Prelude.{◌≡◌};
     ghost use Rattle.sw_port_book.specs.Answers.{Keeps};
-    ghost use Rattle.sw_hand.specs.Hand.{IsHand, IsCrew, HasRow, Stays};
+    ghost use Rattle.sw_hand.specs.Hand.{IsHand, IsCrew, HasRow, Lasts};
     ghost use Rattle.sw_hand.specs.Turn.{Makes, Turns};
 
     /// Makes the handler's act.
@@ -31,7 +31,7 @@ impl<H: Handler> Hand<H> {
         requires row { HasRow (S.columns shelf.old) self.old.house self.old.row }
         ensures makes { Makes B.look_finds B.bind_finds S.call_gives H.acts C.goes C.sizes self.old book.old shelf.old board.old current act self.new book.new shelf.new board.new result }
         ensures kept { IsHand self.new }
-        ensures stays { Stays H.made self.old self.new }
+        ensures lasts { Lasts H.made self.old self.new }
         ensures book { Keeps B.size B.holds book.old book.new }
         ensures row { HasRow (S.columns shelf.new) self.new.house self.new.row }
         ensures columns { S.columns shelf.new ≡ S.columns shelf.old }
@@ -75,7 +75,7 @@ impl<H: Handler> Hand<H> {
         requires row { HasRow (S.columns shelf.old) self.old.house self.old.row }
         ensures turns { Turns B.look_finds B.bind_finds S.call_gives H.acts C.goes C.sizes self.old book.old shelf.old board.old got self.new book.new shelf.new board.new result }
         ensures kept { IsHand self.new }
-        ensures stays { Stays H.made self.old self.new }
+        ensures lasts { Lasts H.made self.old self.new }
         ensures book { Keeps B.size B.holds book.old book.new }
         ensures row { HasRow (S.columns shelf.new) self.new.house self.new.row }
         ensures columns { S.columns shelf.new ≡ S.columns shelf.old }
