@@ -51,15 +51,16 @@ Sends acts goes h b c to errand (gots.Took m) k d ask = Waits h (Sending c to er
 Sends acts goes h b c to errand gots.Empty k d ask = Waits h (Sending c to errand) k ask × (d ≡ b)
 Sends acts goes h b c to errand gots.Nothing k d ask = Waits h (Sending c to errand) k ask × (d ≡ b)
 
--- an event that was taken: the hand is busy, its handler is given the event, and a Connect's session is its own
-abbrev pub Gives : {H C L K : Type 0} → Handling H → Going C → Hand H → C → Event → Hand H → C → Ask (Msg L K) → Type 0
-Gives {H} {C} acts goes h b e k d ask =
-    (mid : C) × ((act : Act) × ((l : Hand H) × (goes b (Marked false ∷ []) mid × Hears acts goes h mid (EventGiven e) act l d
-    × (k ≡ record l { own = own_with h.house h.own (current_of e); stage = Acting (current_of e) act }) × (ask ≡ AskNothing))))
+-- an event that was taken: the hand is busy, a Connect's session is its own, and its handler is given the event
+abbrev pub Gives : {H C L K : Type 0} → Handling H → Going C → Hand H → C → Current → Event → Hand H → C → Ask (Msg L K) → Type 0
+Gives {H} {C} acts goes h b c e k d ask =
+    (mid : C) × ((act : Act) × ((l : Hand H) × (goes b (Marked false ∷ []) mid
+    × Hears acts goes (record h { own = own_with h.house h.own c }) mid (EventGiven e) act l d
+    × (k ≡ record l { stage = Acting c act }) × (ask ≡ AskNothing))))
 
 -- an event that isn't for this hand is dropped
 abbrev pub TakesEvent : {H C L K : Type 0} → Bool → Handling H → Going C → Hand H → C → Event → Hand H → C → Ask (Msg L K) → Type 0
-TakesEvent true acts goes h b e k d ask = Gives acts goes h b e k d ask
+TakesEvent true acts goes h b e k d ask = Gives acts goes h b (current_of e) e k d ask
 TakesEvent false acts goes h b e k d ask = GoesOn h k ask × (d ≡ b)
 
 -- the NoMore that came, up to all that come

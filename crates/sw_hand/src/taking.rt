@@ -160,17 +160,22 @@ impl<H: Handler> Hand<H> {
     }
 
     /// Gives an event that was taken to the handler, and keeps its act.
-    fn give<C: Board, L, K>(&mut self, alloc: Global, board: &mut C, event: Event) -> Ask<Msg<L, K>>
+    fn give<C: Board, L, K>(
+        &mut self,
+        alloc: Global,
+        board: &mut C,
+        current: Current,
+        event: Event,
+    ) -> Ask<Msg<L, K>>
         requires { IsHand self.old }
-        ensures gives { Gives H.acts C.goes self.old board.old event self.new board.new result }
+        ensures gives { Gives H.acts C.goes self.old board.old current event self.new board.new result }
         ensures kept { IsHand self.new }
         ensures stays { Stays H.made self.old self.new }
         ensures sizes { C.sizes board.new ≡ C.sizes board.old }
     {
         board.mark(false);
-        let current = Current::of(&event);
-        let act = self.hear(alloc, board, &Given::Event(event));
         self.own_event(&current);
+        let act = self.hear(alloc, board, &Given::Event(event));
         self.stage = Stage::Acting(current, act);
         Ask::Nothing
     }
@@ -190,8 +195,9 @@ impl<H: Handler> Hand<H> {
     {
         match message {
             Msg::Event(event) => {
-                if Current::of(&event).is_for(self.kind) {
-                    self.give(alloc, board, event)
+                let current = Current::of(&event);
+                if current.is_for(self.kind) {
+                    self.give(alloc, board, current, event)
                 } else {
                     self.go_on()
                 }
