@@ -53,8 +53,8 @@ use Rattle.sw_hand_calls.specs.Calls.{PortCall, Gave, Starved, Looked, Bound, Ca
 around_is : {H B S C : Type 0} {x y : H} {b b2 : B} {s s2 : S} {d d2 : C} → y ≡ x → b2 ≡ b → s2 ≡ s → d2 ≡ d → moment y b2 s2 d2 ≡ moment x b s d
 around_is e1 e2 e3 e4 = cc
 
-ends : {H B S C : Type 0} {r : Rules H B S C} {xs : List PortCall} {p q m : Around H B S C} → AreMade r xs p m → q ≡ m → AreMade r xs p q
-ends {r = r} {xs = xs} {p = p} w e = subst (AreMade r xs p) (sym e) w
+ends : {H B S C : Type 0} → (r : Rules H B S C) (xs : List PortCall) (p : Around H B S C) (y x : H) (b2 b : B) (s2 s : S) (d2 d : C) → AreMade r xs p (moment x b s d) → y ≡ x → b2 ≡ b → s2 ≡ s → d2 ≡ d → AreMade r xs p (moment y b2 s2 d2)
+ends r xs p y x b2 b s2 s d2 d w e1 e2 e3 e4 = subst (AreMade r xs p) (sym (around_is e1 e2 e3 e4)) w
 
 stop_same : {H L K : Type 0} (v : Bool) (h : Hand H) (n : ℕ) (k : Hand H) (ask : Ask (Msg L K)) → StopsAs v h n k ask → k.handler ≡ h.handler
 stop_same true h n k ask (e, q) = ap (λ z. z.handler) e
@@ -93,7 +93,7 @@ made_hears r false h bd g act k bd2 bk sh (inl (w, e1, e2)) = (around k bk sh bd
 made_hears r false h bd g act k bd2 bk sh (inr (e0, (e1, w))) = (around k bk sh bd, (refl, (around k bk sh bd2, ((w, refl), refl))))
 
 made_once : {H B S C : Type 0} → (r : Rules H B S C) (h : Hand H) (bd : C) (c : Current) (a : Answer) (k : Hand H) (bd2 : C) (bk : B) (sh : S) (w : AtOnce r.does r.goes h bd c a k bd2) → AreMade r (once_calls r h bd c a k bd2 w) (around h bk sh bd) (around k bk sh bd2)
-made_once r h bd c a k bd2 bk sh (act, (mid, (w, e))) = ends (made_hears r h.lost h bd (AnswerGiven a) act mid bd2 bk sh w) (around_is (ap (λ z. z.handler) e) refl refl refl)
+made_once r h bd c a k bd2 bk sh (act, (mid, (w, e))) = ends r (hears_calls r h.lost h bd (AnswerGiven a) act mid bd2 w) (around h bk sh bd) k.handler mid.handler bk bk sh sh bd2 bd2 (made_hears r h.lost h bd (AnswerGiven a) act mid bd2 bk sh w) (ap (λ z. z.handler) e) refl refl refl
 
 made_answers : {H B S C L K : Type 0} → (r : Rules H B S C) (h : Hand H) (bd : C) (c : Current) (a : Answer) (k : Hand H) (bd2 : C) (ask : Ask (Msg L K)) (bk : B) (sh : S) (w : Answers r.does r.goes h bd c a k bd2 ask) → AreMade r (answers_calls r h bd c a k bd2 ask w) (around h bk sh bd) (around k bk sh bd2)
 made_answers r h bd c a k bd2 ask bk sh (w, e) = made_once r h bd c a k bd2 bk sh w
@@ -111,12 +111,12 @@ made_reaches r true h bk bd c u errand m k bk2 bd2 ask sh ((e, q), e1, e2) = aro
 made_reaches r false h bk bd c u errand m k bk2 bd2 ask sh (look, (l, w)) = (around h bk2 sh bd, ((l, refl), made_reach_seen r look h bd c u errand m k bd2 ask bk2 sh w))
 
 made_tells : {H B S C L K : Type 0} → (r : Rules H B S C) (v : Bool) (h : Hand H) (bk : B) (bd : C) (c : Current) (u : ℕ) (there : ℕ → Answer) (k : Hand H) (bk2 : B) (bd2 : C) (ask : Ask (Msg L K)) (sh : S) (w : TellsAs v r.looks r.does r.goes h bk bd c u there k bk2 bd2 ask) → AreMade r (tells_calls r v h bk bd c u there k bk2 bd2 ask w) (around h bk sh bd) (around k bk2 sh bd2)
-made_tells r true h bk bd c u there k bk2 bd2 ask sh (w, e1) = ends (made_answers r h bd c (there 0) k bd2 ask bk sh w) (around_is refl e1 refl refl)
+made_tells r true h bk bd c u there k bk2 bd2 ask sh (w, e1) = ends r (answers_calls r h bd c (there 0) k bd2 ask w) (around h bk sh bd) k.handler k.handler bk2 bk sh sh bd2 bd2 (made_answers r h bd c (there 0) k bd2 ask bk sh w) refl e1 refl refl
 made_tells r false h bk bd c u there k bk2 bd2 ask sh (look, (l, w)) = (around h bk2 sh bd, ((l, refl), made_answers r h bd c (told_by there look) k bd2 ask bk2 sh w))
 
 made_binds : {H B S C L K : Type 0} → (r : Rules H B S C) (v : Bool) (h : Hand H) (bk : B) (bd : C) (c : Current) (u : ℕ) (uid : ℕ) (k : Hand H) (bk2 : B) (bd2 : C) (ask : Ask (Msg L K)) (sh : S) (w : BindsAs v r.binds r.does r.goes h bk bd c u uid k bk2 bd2 ask) → AreMade r (binds_calls r v h bk bd c u uid k bk2 bd2 ask w) (around h bk sh bd) (around k bk2 sh bd2)
 made_binds r true h bk bd c u uid k bk2 bd2 ask sh (res, (l, w)) = (around h bk2 sh bd, ((l, refl), made_answers r h bd c (bound_by res) k bd2 ask bk2 sh w))
-made_binds r false h bk bd c u uid k bk2 bd2 ask sh (w, e1) = ends (made_answers r h bd c WrongMode k bd2 ask bk sh w) (around_is refl e1 refl refl)
+made_binds r false h bk bd c u uid k bk2 bd2 ask sh (w, e1) = ends r (answers_calls r h bd c WrongMode k bd2 ask w) (around h bk sh bd) k.handler k.handler bk2 bk sh sh bd2 bd2 (made_answers r h bd c WrongMode k bd2 ask bk sh w) refl e1 refl refl
 
 made_posts : {H B S C L K : Type 0} → (r : Rules H B S C) (oa : Option Answer) (h : Hand H) (bd : C) (c : Current) (dst : Dst) (x : List ℕ) (k : Hand H) (bd2 : C) (ask : Ask (Msg L K)) (bk : B) (sh : S) (w : PostsAs oa r.does r.goes r.sizes h bd c dst x k bd2 ask) → AreMade r (posts_calls r oa h bd c dst x k bd2 ask w) (around h bk sh bd) (around k bk sh bd2)
 made_posts r (Some a) h bd c dst x k bd2 ask bk sh w = made_answers r h bd c a k bd2 ask bk sh w
@@ -141,7 +141,7 @@ made_seen r (Err fault) h bd c call k bd2 ask bk sh w = made_refused r (is_busy 
 
 made_table : {H B S C L K : Type 0} → (r : Rules H B S C) (v : Bool) (h : Hand H) (sh : S) (bd : C) (c : Current) (call : Call) (k : Hand H) (sh2 : S) (bd2 : C) (ask : Ask (Msg L K)) (bk : B) (w : CallsAs v r.gives r.does r.goes h sh bd c call k sh2 bd2 ask) → AreMade r (table_calls r v h sh bd c call k sh2 bd2 ask w) (around h bk sh bd) (around k bk sh2 bd2)
 made_table r true h sh bd c call k sh2 bd2 ask bk (res, (row, (l, w))) = (around h bk sh2 bd, ((l, refl), made_seen r res (record h { row = row }) bd c call k bd2 ask bk sh2 w))
-made_table r false h sh bd c call k sh2 bd2 ask bk (w, e1) = ends (made_answers r h bd c NoTable k bd2 ask bk sh w) (around_is refl refl e1 refl)
+made_table r false h sh bd c call k sh2 bd2 ask bk (w, e1) = ends r (answers_calls r h bd c NoTable k bd2 ask w) (around h bk sh bd) k.handler k.handler bk bk sh2 sh bd2 bd2 (made_answers r h bd c NoTable k bd2 ask bk sh w) refl refl e1 refl
 
 made_sums : {H B S C L K : Type 0} → (r : Rules H B S C) (h : Hand H) (bd : C) (c : Current) (counter : Counter) (k : Hand H) (bd2 : C) (ask : Ask (Msg L K)) (bk : B) (sh : S) (w : Sums r.does r.goes r.sizes h bd c counter k bd2 ask) → AreMade r (sums_calls r h bd c counter k bd2 ask w) (around h bk sh bd) (around k bk sh bd2)
 made_sums r h bd c counter k bd2 ask bk sh (n, (mid, (l, w))) = (around h bk sh mid, ((l, refl), made_answers r h mid c (Count n) k bd2 ask bk sh w))
@@ -170,7 +170,7 @@ made_sends r gots.Empty h bd c to errand k bd2 ask bk sh ((e, q), e2) = around_i
 made_sends r gots.Nothing h bd c to errand k bd2 ask bk sh ((e, q), e2) = around_is (ap (λ z. z.handler) e) refl refl e2
 
 made_gives : {H B S C L K : Type 0} → (r : Rules H B S C) (h : Hand H) (bd : C) (c : Current) (ev : Event) (k : Hand H) (bd2 : C) (ask : Ask (Msg L K)) (bk : B) (sh : S) (w : Gives r.does r.goes h bd c ev k bd2 ask) → AreMade r (gives_calls r h bd c ev k bd2 ask w) (around h bk sh bd) (around k bk sh bd2)
-made_gives r h bd c ev k bd2 ask bk sh (mid, (act, (l, (x, w, e, q)))) = (around h bk sh mid, ((x, refl), ends (made_hears r h.lost (record h { own = own_with h.house h.own c }) mid (EventGiven ev) act l bd2 bk sh w) (around_is (ap (λ z. z.handler) e) refl refl refl)))
+made_gives r h bd c ev k bd2 ask bk sh (mid, (act, (l, (x, w, e, q)))) = (around h bk sh mid, ((x, refl), ends r (hears_calls r h.lost (record h { own = own_with h.house h.own c }) mid (EventGiven ev) act l bd2 w) (around h bk sh mid) k.handler l.handler bk bk sh sh bd2 bd2 (made_hears r h.lost (record h { own = own_with h.house h.own c }) mid (EventGiven ev) act l bd2 bk sh w) (ap (λ z. z.handler) e) refl refl refl))
 
 made_takes_event : {H B S C L K : Type 0} → (r : Rules H B S C) (v : Bool) (h : Hand H) (bd : C) (ev : Event) (k : Hand H) (bd2 : C) (ask : Ask (Msg L K)) (bk : B) (sh : S) (w : TakesEvent v r.does r.goes h bd ev k bd2 ask) → AreMade r (takes_event_calls r v h bd ev k bd2 ask w) (around h bk sh bd) (around k bk sh bd2)
 made_takes_event r true h bd ev k bd2 ask bk sh w = made_gives r h bd (current_of ev) ev k bd2 ask bk sh w
@@ -195,23 +195,23 @@ made_idles r (gots.Full m) h bd k bd2 ask bk sh (w, e) = around_is (goes_same h 
 made_idles r gots.Nothing h bd k bd2 ask bk sh (w, e) = around_is (goes_same h k ask w) refl refl e
 
 made_makes : {H B S C L K : Type 0} → (r : Rules H B S C) (act : Act) (h : Hand H) (bk : B) (sh : S) (bd : C) (c : Current) (k : Hand H) (bk2 : B) (sh2 : S) (bd2 : C) (ask : Ask (Msg L K)) (w : Makes r.looks r.binds r.gives r.does r.goes r.sizes h bk sh bd c act k bk2 sh2 bd2 ask) → AreMade r (makes_calls r act h bk sh bd c k bk2 sh2 bd2 ask w) (around h bk sh bd) (around k bk2 sh2 bd2)
-made_makes r (acts.Send u x) h bk sh bd c k bk2 sh2 bd2 ask (w, e1) = ends (made_reaches r (is_own h c u) h bk bd c u errands.Send (msgs.Send u x) k bk2 bd2 ask sh w) (around_is refl refl e1 refl)
-made_makes r (acts.Close u) h bk sh bd c k bk2 sh2 bd2 ask (w, e1) = ends (made_reaches r (is_own h c u) h bk bd c u errands.Ask (msgs.Close u) k bk2 bd2 ask sh w) (around_is refl refl e1 refl)
-made_makes r (acts.Reset u) h bk sh bd c k bk2 sh2 bd2 ask (w, e1) = ends (made_reaches r (is_own h c u) h bk bd c u errands.Ask (msgs.Reset u) k bk2 bd2 ask sh w) (around_is refl refl e1 refl)
-made_makes r (acts.Bind u uid) h bk sh bd c k bk2 sh2 bd2 ask (w, e1) = ends (made_binds r (h.house.mode == 5) h bk bd c u uid k bk2 bd2 ask sh w) (around_is refl refl e1 refl)
-made_makes r (acts.Exist u) h bk sh bd c k bk2 sh2 bd2 ask (w, e1) = ends (made_tells r (is_own h c u) h bk bd c u (λ z. Exists) k bk2 bd2 ask sh w) (around_is refl refl e1 refl)
-made_makes r (acts.Info u) h bk sh bd c k bk2 sh2 bd2 ask (w, e1) = ends (made_tells r (info_known h c u) h bk bd c u (Info (fd_of h.house u)) k bk2 bd2 ask sh w) (around_is refl refl e1 refl)
-made_makes r (acts.Task dst x) h bk sh bd c k bk2 sh2 bd2 ask (w, e1, e2) = ends (made_posts r (post_refusal h.kind h.house h.next dst) h bd c dst x k bd2 ask bk sh w) (around_is refl e1 e2 refl)
-made_makes r (acts.Finish x) h bk sh bd c k bk2 sh2 bd2 ask (w, e1, e2) = ends (made_finishes r (poster_of c) h bd c x k bd2 ask bk sh w) (around_is refl e1 e2 refl)
-made_makes r (acts.Table call) h bk sh bd c k bk2 sh2 bd2 ask (w, e1) = ends (made_table r h.house.table h sh bd c call k sh2 bd2 ask bk w) (around_is refl e1 refl refl)
-made_makes r (acts.Stats counter) h bk sh bd c k bk2 sh2 bd2 ask (w, e1, e2) = ends (made_sums r h bd c counter k bd2 ask bk sh w) (around_is refl e1 e2 refl)
-made_makes r acts.Shutdown h bk sh bd c k bk2 sh2 bd2 ask (w, e1, e2) = ends (made_shuts r h bd c k bd2 ask bk sh w) (around_is refl e1 e2 refl)
+made_makes r (acts.Send u x) h bk sh bd c k bk2 sh2 bd2 ask (w, e1) = ends r (reaches_calls r (is_own h c u) h bk bd c u errands.Send (msgs.Send u x) k bk2 bd2 ask w) (around h bk sh bd) k.handler k.handler bk2 bk2 sh2 sh bd2 bd2 (made_reaches r (is_own h c u) h bk bd c u errands.Send (msgs.Send u x) k bk2 bd2 ask sh w) refl refl e1 refl
+made_makes r (acts.Close u) h bk sh bd c k bk2 sh2 bd2 ask (w, e1) = ends r (reaches_calls r (is_own h c u) h bk bd c u errands.Ask (msgs.Close u) k bk2 bd2 ask w) (around h bk sh bd) k.handler k.handler bk2 bk2 sh2 sh bd2 bd2 (made_reaches r (is_own h c u) h bk bd c u errands.Ask (msgs.Close u) k bk2 bd2 ask sh w) refl refl e1 refl
+made_makes r (acts.Reset u) h bk sh bd c k bk2 sh2 bd2 ask (w, e1) = ends r (reaches_calls r (is_own h c u) h bk bd c u errands.Ask (msgs.Reset u) k bk2 bd2 ask w) (around h bk sh bd) k.handler k.handler bk2 bk2 sh2 sh bd2 bd2 (made_reaches r (is_own h c u) h bk bd c u errands.Ask (msgs.Reset u) k bk2 bd2 ask sh w) refl refl e1 refl
+made_makes r (acts.Bind u uid) h bk sh bd c k bk2 sh2 bd2 ask (w, e1) = ends r (binds_calls r (h.house.mode == 5) h bk bd c u uid k bk2 bd2 ask w) (around h bk sh bd) k.handler k.handler bk2 bk2 sh2 sh bd2 bd2 (made_binds r (h.house.mode == 5) h bk bd c u uid k bk2 bd2 ask sh w) refl refl e1 refl
+made_makes r (acts.Exist u) h bk sh bd c k bk2 sh2 bd2 ask (w, e1) = ends r (tells_calls r (is_own h c u) h bk bd c u (λ z. Exists) k bk2 bd2 ask w) (around h bk sh bd) k.handler k.handler bk2 bk2 sh2 sh bd2 bd2 (made_tells r (is_own h c u) h bk bd c u (λ z. Exists) k bk2 bd2 ask sh w) refl refl e1 refl
+made_makes r (acts.Info u) h bk sh bd c k bk2 sh2 bd2 ask (w, e1) = ends r (tells_calls r (info_known h c u) h bk bd c u (Info (fd_of h.house u)) k bk2 bd2 ask w) (around h bk sh bd) k.handler k.handler bk2 bk2 sh2 sh bd2 bd2 (made_tells r (info_known h c u) h bk bd c u (Info (fd_of h.house u)) k bk2 bd2 ask sh w) refl refl e1 refl
+made_makes r (acts.Task dst x) h bk sh bd c k bk2 sh2 bd2 ask (w, e1, e2) = ends r (posts_calls r (post_refusal h.kind h.house h.next dst) h bd c dst x k bd2 ask w) (around h bk sh bd) k.handler k.handler bk2 bk sh2 sh bd2 bd2 (made_posts r (post_refusal h.kind h.house h.next dst) h bd c dst x k bd2 ask bk sh w) refl e1 e2 refl
+made_makes r (acts.Finish x) h bk sh bd c k bk2 sh2 bd2 ask (w, e1, e2) = ends r (finishes_calls r (poster_of c) h bd c x k bd2 ask w) (around h bk sh bd) k.handler k.handler bk2 bk sh2 sh bd2 bd2 (made_finishes r (poster_of c) h bd c x k bd2 ask bk sh w) refl e1 e2 refl
+made_makes r (acts.Table call) h bk sh bd c k bk2 sh2 bd2 ask (w, e1) = ends r (table_calls r h.house.table h sh bd c call k sh2 bd2 ask w) (around h bk sh bd) k.handler k.handler bk2 bk sh2 sh2 bd2 bd2 (made_table r h.house.table h sh bd c call k sh2 bd2 ask bk w) refl e1 refl refl
+made_makes r (acts.Stats counter) h bk sh bd c k bk2 sh2 bd2 ask (w, e1, e2) = ends r (sums_calls r h bd c counter k bd2 ask w) (around h bk sh bd) k.handler k.handler bk2 bk sh2 sh bd2 bd2 (made_sums r h bd c counter k bd2 ask bk sh w) refl e1 e2 refl
+made_makes r acts.Shutdown h bk sh bd c k bk2 sh2 bd2 ask (w, e1, e2) = ends r (shuts_calls r h bd c k bd2 ask w) (around h bk sh bd) k.handler k.handler bk2 bk sh2 sh bd2 bd2 (made_shuts r h bd c k bd2 ask bk sh w) refl e1 e2 refl
 made_makes r acts.Done h bk sh bd c k bk2 sh2 bd2 ask (w, e1, e2, e3) = around_is (ends_same (last_words h.house h.kind c) h c k ask w) e1 e2 e3
 
 made_turn : {H B S C L K : Type 0} → (r : Rules H B S C) (stage : Stage) (h : Hand H) (bk : B) (sh : S) (bd : C) (got : Got (Msg L K)) (k : Hand H) (bk2 : B) (sh2 : S) (bd2 : C) (ask : Ask (Msg L K)) (w : TurnsAs r.looks r.binds r.gives r.does r.goes r.sizes stage h bk sh bd got k bk2 sh2 bd2 ask) → AreMade r (turn_calls r stage h bk sh bd got k bk2 sh2 bd2 ask w) (around h bk sh bd) (around k bk2 sh2 bd2)
-made_turn r stages.Idle h bk sh bd got k bk2 sh2 bd2 ask (w, e1, e2) = ends (made_idles r got h bd k bd2 ask bk sh w) (around_is refl e1 e2 refl)
+made_turn r stages.Idle h bk sh bd got k bk2 sh2 bd2 ask (w, e1, e2) = ends r (idles_calls r got h bd k bd2 ask w) (around h bk sh bd) k.handler k.handler bk2 bk sh2 sh bd2 bd2 (made_idles r got h bd k bd2 ask bk sh w) refl e1 e2 refl
 made_turn r (stages.Acting c act) h bk sh bd got k bk2 sh2 bd2 ask w = made_makes r act h bk sh bd c k bk2 sh2 bd2 ask w
-made_turn r (stages.Sending c to errand) h bk sh bd got k bk2 sh2 bd2 ask (w, e1, e2) = ends (made_sends r got h bd c to errand k bd2 ask bk sh w) (around_is refl e1 e2 refl)
+made_turn r (stages.Sending c to errand) h bk sh bd got k bk2 sh2 bd2 ask (w, e1, e2) = ends r (sends_calls r got h bd c to errand k bd2 ask w) (around h bk sh bd) k.handler k.handler bk2 bk sh2 sh bd2 bd2 (made_sends r got h bd c to errand k bd2 ask bk sh w) refl e1 e2 refl
 made_turn r (stages.Leaving c to) h bk sh bd got k bk2 sh2 bd2 ask (w, e1, e2, e3) = around_is (leaves_same got h c to k ask w) e1 e2 e3
 made_turn r (stages.Stopping n) h bk sh bd got k bk2 sh2 bd2 ask (w, e1, e2, e3) = around_is (stops_same got h n k ask w) e1 e2 e3
 made_turn r stages.Finished h bk sh bd got k bk2 sh2 bd2 ask (e, q, e1, e2, e3) = around_is (ap (λ z. z.handler) e) e1 e2 e3
