@@ -1,5 +1,8 @@
 -- What was pushed of a connection to each worker.
 use Rattle.std.proofs.Common.{◌≡◌, ◌⊎◌, ℕ, ◌+◌, ◌==◌, Bool, true, false, if◌then◌else◌, List, [], ◌∷◌, ◌++◌, take, refl, ap, ◌∙◌, sym, subst, append-nil, Option, inl, inr}
+use Rattle.sw_conn.specs.declared.conn.Phase.{Phase}
+use Rattle.sw_conn.specs.declared.conn.Phase.TheVariants.{Coming, Open, Closing}
+use Rattle.sw_conn.specs.Modes.{bound}
 use Rattle.sw_lists.specs.Lists.{collect, IsPrefix, Each, when}
 use Rattle.sw_lists.proofs.Lists.{eq_same, eq_is, bool_cases, collect-append, each_append, each_collect, each_all}
 use Rattle.sw_step.specs.declared.actor.ActorId.{ActorId}
@@ -15,7 +18,7 @@ use Rattle.sw_past.specs.Views.{story_in, due}
 use Rattle.sw_join.specs.Laws.{streams, LastDue}
 use Rattle.sw_join.specs.Aims.{packets_from, story, KeptAim, KeptEnd}
 use Rattle.sw_join.proofs.Routes.{one_sender, other_sender}
-use Rattle.sw_reactor_laws.specs.Conn.{Phase, Coming, Open, Closing, Conn, bound}
+use Rattle.sw_reactor_laws.specs.Conn.{Conn}
 use Rattle.sw_reactor_laws.specs.Quiet.{told_by, IsAimed, IsPhase, Tale, TaleOf, IsOver}
 use Rattle.sw_reactor_laws.specs.Modes.{ModeLaws}
 use Rattle.sw_reactor_laws.proofs.Tale.{own_closed}

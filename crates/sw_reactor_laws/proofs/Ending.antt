@@ -1,6 +1,8 @@
 -- A reactor's counts of NoMore, and what it shows once it is finished.
-use Rattle.std.proofs.Common.{◌≡◌, ◌⊎◌, ℕ, ◌+◌, ◌<◌, ◌≤◌, ◌==◌, Bool, true, false, nat_lt, if◌then◌else◌, List, [], ◌∷◌, ◌++◌, length, refl, ap, ◌∙◌, sym, subst, append-nil, arith, Option, Some, None, inl, inr, zero, suc}
+use Rattle.std.proofs.Common.{◌≡◌, ◌⊎◌, ℕ, ◌+◌, ◌<◌, ◌≤◌, ◌==◌, Bool, true, false, nat_lt, if◌then◌else◌, List, [], ◌∷◌, ◌++◌, length, refl, ap, ◌∙◌, sym, subst, append-nil, arith, Option, Some, None, inl, inr, zero, suc, map}
 use Rattle.std.proofs.lemmas.Bool.Decides.{nat_tests}
+use Rattle.sw_data.specs.declared.messages.Got.{Got}
+use Rattle.sw_data.specs.declared.messages.Got.TheVariants.{Start}
 use Rattle.sw_lists.specs.Lists.{collect, Each, Has, when}
 use Rattle.sw_lists.proofs.Lists.{collect-append, length_append, each_append, eq_same, eq_other, eq_is, equal_or_not, perm_each, each_left, each_right, append_none}
 use Rattle.sw_step.specs.declared.actor.ActorId.{ActorId}
@@ -12,8 +14,8 @@ use Rattle.sw_record.specs.Terms.{Terms, session_of}
 use Rattle.sw_past.specs.Messages.{Message, FreshMsg, SendMsg, CloseMsg, ResetMsg, Bye, EventMsg, OverMsg, NoMore}
 use Rattle.sw_past.specs.Past.{Mail, bare, of, with}
 use Rattle.sw_past.specs.Views.{fresh_in, fresh_of, no_more}
-use Rattle.sw_reactor_laws.specs.Conn.{Conn, Answers, Fault, stops, fresh, takes, noted, holds, at_event, writes, Does, Pushes, Moves, Stays, Leaves, serve, live_link}
-use Rattle.sw_reactor_laws.specs.Reactor.{Reactor, Ask, Take, Push, Nothing, Rest, Finished, Got, Start, all, map, each_conn, settled, settled_msg, settled_push, settled_full, pushed_by, full_by, turned, rest_by, served_by, counted, ends_by, serves, chosen, turn, started, live_links, kept}
+use Rattle.sw_reactor_laws.specs.Conn.{Conn, Answers, stops, fresh, takes, noted, holds, at_event, writes, Does, Pushes, Moves, Stays, Leaves, serve, live_link}
+use Rattle.sw_reactor_laws.specs.Reactor.{Reactor, Ask, Take, Push, Nothing, Rest, Finished, all, each_conn, settled, settled_msg, settled_push, settled_full, pushed_by, full_by, turned, rest_by, served_by, counted, ends_by, serves, chosen, turn, started, live_links, kept}
 use Rattle.sw_reactor_laws.specs.Quiet.{QuietOver, Quiet, some_list, session_over, sessions}
 use Rattle.sw_reactor_laws.specs.Runs.{Called, TookOne, FoundNone, PushedOne, CameBack, NoCall, Runs, First, Then}
 use Rattle.sw_reactor_laws.specs.Ending.{Counts, IsGiving, IsGivingMsg, IsDone, Chose}
@@ -70,20 +72,20 @@ ends_chose t r empty tight = pick (nat_lt 0 r.ends) (nat_lt r.given t.worker_num
     pick true false e false g = record { ends = refl; given = refl; tight = tight; giving = tt; done = λ q. absurd (cc) }
     pick false y e z g = record { ends = refl; given = refl; tight = tight; giving = tt; done = λ q. absurd (cc) }
 
-serves_chose : (t : Terms) (fault : List (List ℕ) → Fault) (a : Answers) (r : Reactor) → (r.next ≡ [] → r.done ≡ []) → (next : List Conn) → r.next ≡ next → Chose t r (serves t fault a next r)
-serves_chose t fault a r tight [] e = ends_chose t r e tight
-serves_chose t fault a r tight (c ∷ cs) e = (let s = served_chose t a (writes a.write c) cs (serve t fault a r.round c).conn (serve t fault a r.round c).does (record r { round = counted (serve t fault a r.round c).cuts r.round }) in record { ends = s.ends; given = s.given; tight = s.tight; giving = s.giving; done = s.done })
+serves_chose : (t : Terms) (a : Answers) (r : Reactor) → (r.next ≡ [] → r.done ≡ []) → (next : List Conn) → r.next ≡ next → Chose t r (serves t a next r)
+serves_chose t a r tight [] e = ends_chose t r e tight
+serves_chose t a r tight (c ∷ cs) e = (let s = served_chose t a (writes a.write c) cs (serve t a r.round c).conn (serve t a r.round c).does (record r { round = counted (serve t a r.round c).cuts r.round }) in record { ends = s.ends; given = s.given; tight = s.tight; giving = s.giving; done = s.done })
 
 takes_chose : (t : Terms) (r : Reactor) → (r.next ≡ [] → r.done ≡ []) → (b : Bool) → Chose t r (record (if b then each_conn stops r else r) { last = Take })
 takes_chose t r tight true = record { ends = refl; given = refl; tight = each_tight stops r tight; giving = tt; done = λ q. absurd (cc) }
 takes_chose t r tight false = record { ends = refl; given = refl; tight = tight; giving = tt; done = λ q. absurd (cc) }
 
-chosen_chose : (t : Terms) (fault : List (List ℕ) → Fault) (a : Answers) (r : Reactor) → (r.next ≡ [] → r.done ≡ []) → (ask : Ask) → Chose t r (chosen t fault a ask r)
-chosen_chose t fault a r tight Take = serves_chose t fault a r tight r.next refl
-chosen_chose t fault a r tight (Push w m) = takes_chose t r tight a.stop
-chosen_chose t fault a r tight Nothing = takes_chose t r tight a.stop
-chosen_chose t fault a r tight Rest = takes_chose t r tight a.stop
-chosen_chose t fault a r tight Finished = takes_chose t r tight a.stop
+chosen_chose : (t : Terms) (a : Answers) (r : Reactor) → (r.next ≡ [] → r.done ≡ []) → (ask : Ask) → Chose t r (chosen t a ask r)
+chosen_chose t a r tight Take = serves_chose t a r tight r.next refl
+chosen_chose t a r tight (Push w m) = takes_chose t r tight a.stop
+chosen_chose t a r tight Nothing = takes_chose t r tight a.stop
+chosen_chose t a r tight Rest = takes_chose t r tight a.stop
+chosen_chose t a r tight Finished = takes_chose t r tight a.stop
 
 -- what is settled
 some_not : (cs : List Conn) (c : Conn) → cs ++ c ∷ [] ≡ [] → ⊥
@@ -158,32 +160,32 @@ pub record CountsAfter (t : Terms) (took pushed : Mail) (r : Reactor) : Type 0 w
   pub giving : IsGiving r.given r.last
   pub done : r.last ≡ Finished → IsDone t r
 
-call_counts : (t : Terms) (r : Reactor) (took pushed later more : Mail) (got : Got) → Called r took pushed later more got → CountsAfter t took pushed r → (starved : Bool) → Counts t later more (settled t starved got r)
+call_counts : (t : Terms) (r : Reactor) (took pushed later more : Mail) (got : Got Message) → Called r took pushed later more got → CountsAfter t took pushed r → (starved : Bool) → Counts t later more (settled t starved got r)
 call_counts t r took pushed _ _ _ (TookOne e from m) c starved = took_counts t took pushed starved from m (record r { empty = false }) (record { ends = c.counts.ends; gave = c.counts.gave; tight = c.counts.tight })
 call_counts t r took pushed _ _ _ (FoundNone e) c starved = record { ends = c.counts.ends; gave = c.counts.gave; tight = c.counts.tight }
 call_counts t r took pushed _ _ _ (PushedOne w m e) c starved = subst (λ (k : Ask). Counts t took (pushed ++ (Worker w, m) ∷ []) (pushed_by t k r)) (sym e) (pushed_counts t took pushed w m r (subst (IsGiving r.given) e c.giving) c.counts)
 call_counts t r took pushed _ _ _ (CameBack w m e) c starved = subst (λ (k : Ask). Counts t took pushed (full_by k m r)) (sym e) (full_counts t took pushed w m r c.counts)
 call_counts t r took pushed _ _ _ (NoCall e) c starved = c.counts
 
-turn_counts : (t : Terms) (fault : List (List ℕ) → Fault) (starved : Bool) (a : Answers) (got : Got) (took pushed : Mail) (r : Reactor) → Counts t took pushed (settled t starved got r) → CountsAfter t took pushed (turn t fault starved a got r)
-turn_counts t fault starved a got took pushed r c =
-    let d : Chose t (settled t starved got r) (turn t fault starved a got r) = chosen_chose t fault a (settled t starved got r) c.tight r.last in
+turn_counts : (t : Terms) (starved : Bool) (a : Answers) (got : Got Message) (took pushed : Mail) (r : Reactor) → Counts t took pushed (settled t starved got r) → CountsAfter t took pushed (turn t starved a got r)
+turn_counts t starved a got took pushed r c =
+    let d : Chose t (settled t starved got r) (turn t starved a got r) = chosen_chose t a (settled t starved got r) c.tight r.last in
     record {
       counts = record { ends = d.ends ∙ c.ends; gave = λ j. c.gave j ∙ ap (λ (k : ℕ). if nat_lt j k then 1 else 0) (sym d.given); tight = d.tight };
       giving = d.giving;
       done = d.done;
     }
 
-pub runs_counts : (t : Terms) (fault : List (List ℕ) → Fault) (word : ℕ → ℕ) (took pushed : Mail) (r : Reactor) → Runs t fault word took pushed r → CountsAfter t took pushed r
-runs_counts t fault word _ _ _ (First starved a honest) = turn_counts t fault starved a Start [] [] started (record { ends = refl; gave = λ j. none j; tight = λ e. refl })
+pub runs_counts : (t : Terms) (word : ℕ → ℕ) (took pushed : Mail) (r : Reactor) → Runs t word took pushed r → CountsAfter t took pushed r
+runs_counts t word _ _ _ (First starved a honest) = turn_counts t starved a Start [] [] started (record { ends = refl; gave = λ j. none j; tight = λ e. refl })
   where
     low : (k : ℕ) → nat_lt k 0 ≡ false
     low k = grind (arith, nat_tests)
 
     none : (j : ℕ) → ◌≡◌ {A = ℕ} 0 (if nat_lt j 0 then 1 else 0)
     none j = rw (low j) refl
-runs_counts t fault word _ _ _ (Then {took = took} {pushed = pushed} {r = r} before later more got call starved a honest) =
-    turn_counts t fault starved a got later more r (call_counts t r took pushed later more got call (runs_counts t fault word took pushed r before) starved)
+runs_counts t word _ _ _ (Then {took = took} {pushed = pushed} {r = r} before later more got call starved a honest) =
+    turn_counts t starved a got later more r (call_counts t r took pushed later more got call (runs_counts t word took pushed r before) starved)
 
 -- at most one NoMore to each worker, at every moment
 pub once_now : (t : Terms) (took pushed : Mail) (r : Reactor) → Counts t took pushed r → (j : ℕ) → length (collect no_more (of (Worker j) pushed)) ≤ 1
@@ -194,9 +196,9 @@ once_now t took pushed r c j = subst (λ (n : ℕ). n ≤ 1) (sym (c.gave j)) (m
     most false = omega arith
 
 -- a finished reactor took NoMore of all, and every link that it took has its end
-pub finished_ends : (t : Terms) (fault : List (List ℕ) → Fault) (word : ℕ → ℕ) (took pushed : Mail) (r : Reactor) → Runs t fault word took pushed r → r.last ≡ Finished → 1 + (t.worker_num + t.tasker_num) ≤ length (collect no_more (bare took))
-finished_ends t fault word took pushed r runs e =
-    (let c = runs_counts t fault word took pushed r runs in let d = c.done e in let k : r.ends ≡ 1 + t.worker_num + t.tasker_num = d.all_ended in let g : r.ends ≡ length (collect no_more (bare took)) = c.counts.ends in omega arith)
+pub finished_ends : (t : Terms) (word : ℕ → ℕ) (took pushed : Mail) (r : Reactor) → Runs t word took pushed r → r.last ≡ Finished → 1 + (t.worker_num + t.tasker_num) ≤ length (collect no_more (bare took))
+finished_ends t word took pushed r runs e =
+    (let c = runs_counts t word took pushed r runs in let d = c.done e in let k : r.ends ≡ 1 + t.worker_num + t.tasker_num = d.all_ended in let g : r.ends ≡ length (collect no_more (bare took)) = c.counts.ends in omega arith)
 
 over_ended : (t : Terms) (a : ℕ → LinkRecord → Mail → Type 0) (w : ℕ → LinkRecord → Ended → Mail → Type 0) (took pushed : Mail) (ls : List LinkRecord) → Each (QuietOver t a w took pushed) ls → (l : LinkRecord) → Has l ls → (e : Ended) × (l.state ≡ Over e)
 over_ended t a w took pushed [] q l (zero, e) = absurd (cc)

@@ -3,6 +3,7 @@ use Rattle.std.proofs.Common.{◌≡◌, ℕ, ◌+◌, ◌<◌, ◌≤◌, Bool,
 use Rattle.std.specs.List.{concat}
 use Rattle.std.proofs.lemmas.List.Folds.{concat-append}
 use Rattle.std.proofs.lemmas.List.{take-append-drop}
+use Rattle.sw_conn.specs.Causes.{is_hard}
 use Rattle.sw_lists.specs.Lists.{collect}
 use Rattle.sw_lists.proofs.Lists.{length_append, append_none}
 use Rattle.sw_step.specs.declared.actor.ActorId.{ActorId}
@@ -12,7 +13,6 @@ use Rattle.sw_record.specs.Terms.{Terms}
 use Rattle.sw_past.specs.Messages.{Message, FreshMsg, SendMsg}
 use Rattle.sw_past.specs.Past.{Mail, bare}
 use Rattle.sw_past.specs.Views.{sends_in, byes_in, close_of, reset_of}
-use Rattle.sw_reactor_laws.specs.Conn.{is_hard}
 use Rattle.sw_reactor_laws.specs.Quiet.{Flows, TooMuch, IsCaused}
 
 -- of one more message

@@ -1,5 +1,6 @@
 -- A quiet connection shows the law of a link, also as it leaves; and a link's law stays as more comes and as events of others are pushed.
 use Rattle.std.proofs.Common.{◌≡◌, ℕ, ◌+◌, ◌≤◌, true, false, List, [], ◌∷◌, ◌++◌, length, refl, ap, ◌∙◌, sym, subst, append-nil, append_assoc, arith, Some, inl, inr}
+use Rattle.sw_conn.specs.Causes.{hard, is_hard}
 use Rattle.sw_lists.specs.Lists.{collect}
 use Rattle.sw_lists.proofs.Lists.{length_append}
 use Rattle.sw_step.specs.declared.actor.ActorId.{ActorId}
@@ -13,7 +14,7 @@ use Rattle.sw_past.specs.Messages.{Message, FreshMsg}
 use Rattle.sw_past.specs.Past.{Mail, bare}
 use Rattle.sw_past.specs.Views.{story_in, byes_in, due_in}
 use Rattle.sw_join.specs.Laws.{IsKept, IsEnded, IsTooMuch, LastDue}
-use Rattle.sw_reactor_laws.specs.Conn.{Conn, hard, is_hard, account, over_link}
+use Rattle.sw_reactor_laws.specs.Conn.{Conn, account, over_link}
 use Rattle.sw_reactor_laws.specs.Quiet.{Flows, TooMuch, IsOver, QuietConn, dues}
 use Rattle.sw_reactor_laws.specs.Modes.{ModeLaws, IsReleased, shown_link, back_link}
 use Rattle.sw_reactor_laws.proofs.Flow.{more_of}
@@ -182,7 +183,7 @@ kept_pushed t a w m s l took pushed x none k =
 
 -- a link that comes back from a run that could not start
 pub back_kept : (t : Terms) (a : Aim) (w : Ending) → ModeLaws t a w → t.start_fault ≡ true → (n : ℕ) (took pushed : Mail) (c : Conn) → QuietConn t n took pushed c → IsKept t a w c.session (back_link t c.ip c.session c.uid c.split c.pieces c.written c.dispatched) took pushed
-back_kept t a w m fault n took pushed c q =
+back_kept t a w m start n took pushed c q =
     record {
       early = q.flows.early;
       mid = q.flows.mid;
@@ -192,9 +193,9 @@ back_kept t a w m fault n took pushed c q =
       aims = m.back c.ip c.session c.uid c.split c.pieces c.taken c.dispatched c.cause c.phase pushed q.tale c.written c.dispatched;
       few = λ d g. subst (λ (x : Ended). x.dispatched ≤ length (packets_cut t c.pieces)) (ends_same _ d g) (let h : c.dispatched ≤ c.taken = q.tale.least in let k : c.taken ≤ length (packets_cut t c.pieces) = q.tale.few in omega arith);
       all = λ d g. subst (λ (x : Ended). IsAllCut x.cause → x.dispatched ≡ length (packets_cut t c.pieces)) (ends_same _ d g) (λ z. absurd z);
-      ended = λ d g. subst (λ (x : Ended). IsOwnEnd t x → IsEnded t c.session (back_link t c.ip c.session c.uid c.split c.pieces c.written c.dispatched) x took q.flows.mid pushed) (ends_same _ d g) (λ mine. absurd (mine (fault, refl)));
+      ended = λ d g. subst (λ (x : Ended). IsOwnEnd t x → IsEnded t c.session (back_link t c.ip c.session c.uid c.split c.pieces c.written c.dispatched) x took q.flows.mid pushed) (ends_same _ d g) (λ mine. absurd (mine (start, refl)));
       overflow = λ d k g. subst (λ (x : Ended). x.cause ≡ Overflow k → IsTooMuch t c.session (back_link t c.ip c.session c.uid c.split c.pieces c.written c.dispatched) q.flows.mid q.flows.later k) (ends_same _ d g) (λ z. absurd (stop_not k z));
-      whole_then = λ d g. subst (λ (x : Ended). IsOwnEnd t x → w c.session (back_link t c.ip c.session c.uid c.split c.pieces c.written c.dispatched) x pushed) (ends_same _ d g) (λ mine. absurd (mine (fault, refl)));
+      whole_then = λ d g. subst (λ (x : Ended). IsOwnEnd t x → w c.session (back_link t c.ip c.session c.uid c.split c.pieces c.written c.dispatched) x pushed) (ends_same _ d g) (λ mine. absurd (mine (start, refl)));
     }
   where
     stop_not : (k : ℕ) → Stop ≡ Overflow k → ⊥

@@ -1,5 +1,15 @@
 -- A uid that was seen is that of the session, so what the release answers is what was seen.
-use Rattle.std.proofs.Common.{◌≡◌, ◌⊎◌, ℕ, ◌+◌, ◌==◌, ◌-◌, ◌^◌, Bool, true, false, nat_lt, if◌then◌else◌, List, [], ◌∷◌, ◌++◌, length, refl, ap, ◌∙◌, sym, subst, append-nil, append_assoc, Option, Some, None, inl, inr}
+use Rattle.std.proofs.Common.{◌≡◌, ◌⊎◌, ℕ, ◌+◌, ◌==◌, ◌-◌, ◌^◌, Bool, true, false, nat_lt, if◌then◌else◌, List, [], ◌∷◌, ◌++◌, length, refl, ap, ◌∙◌, sym, subst, append-nil, append_assoc, Option, Some, None, inl, inr, map}
+use Rattle.sw_link.specs.declared.link.LinkWrite.{LinkWrite}
+use Rattle.sw_link.specs.Reads.{Read, GotPiece, ReadNotYet, ReadEnd, ReadFailed}
+use Rattle.sw_conn.specs.Causes.{is_hard}
+use Rattle.sw_conn.specs.Conn.{set_soft, set_hard}
+use Rattle.sw_data.specs.declared.messages.Got.{Got}
+use Rattle.sw_data.specs.declared.messages.Got.TheVariants.{Start, Took, Empty, Pushed, Full}
+use Rattle.sw_link.specs.declared.link.LinkWrite.TheVariants as writing
+use Rattle.sw_frame.specs.declared.next.Next.{Next}
+use Rattle.sw_frame.specs.declared.next.Next.TheVariants as next
+use Rattle.sw_data.specs.declared.messages.Got.TheVariants as gots
 use Rattle.sw_lists.specs.Lists.{Each}
 use Rattle.sw_lists.proofs.Lists.{each_append, each_left, each_right}
 use Rattle.sw_record.specs.Words.{Event, Connect, Packet, Closed, Finish, Task, Cause, NoMemory, Overflow, ServerClose, ResetCause, Ended}
@@ -8,9 +18,10 @@ use Rattle.sw_record.specs.declared.record.LinkRecord.{LinkRecord}
 use Rattle.sw_record.specs.Terms.{Terms}
 use Rattle.sw_past.specs.Messages.{Message, FreshMsg, SendMsg, CloseMsg, ResetMsg, Bye, EventMsg, OverMsg, NoMore}
 use Rattle.sw_past.specs.Past.{Mail}
-use Rattle.sw_reactor_laws.specs.Conn.{Conn, Wrote, WroteBytes, WriteFailed, Read, GotPiece, ReadNotYet, ReadEnd, ReadFailed, Answers, Fault, is_hard, set_soft, set_hard, fresh, sent, takes, stops, noted, holds, at_event, wrote, flushed_some, flushed, writes, Does, Pushes, Moves, Stays, Leaves, Served, pushes, plain, Next, NextPacket, NextMore, NextStuck, next_of, read_by, cut_by, closes, can_leave, end_by, cause_by, connects, open_by, held_by, tidied, serve, account, over_link}
-use Rattle.sw_reactor_laws.specs.Reactor.{Reactor, Ask, Take, Push, Nothing, Rest, Finished, Got, Start, Took, Empty, Pushed, Full, GotNothing, all, map, each_conn, settled, settled_msg, settled_push, settled_full, pushed_by, full_by, turned, stayed, served_by, counted, ends_by, serves, chosen, started}
+use Rattle.sw_reactor_laws.specs.Conn.{cuts_next, starve, cutter, Conn, Answers, fresh, sent, takes, stops, noted, holds, at_event, wrote, flushed_some, flushed, writes, Does, Pushes, Moves, Stays, Leaves, Served, pushes, plain, read_by, cut_by, closes, can_leave, end_by, cause_by, connects, open_by, held_by, tidied, serve, account, over_link}
+use Rattle.sw_reactor_laws.specs.Reactor.{Reactor, Ask, Take, Push, Nothing, Rest, Finished, all, each_conn, settled, settled_msg, settled_push, settled_full, pushed_by, full_by, turned, stayed, served_by, counted, ends_by, serves, chosen, started}
 use Rattle.sw_reactor_laws.specs.Runs.{IsHonest, IsFaithful, Known, Runs, First, Then}
+use Rattle.sw_frame.specs.Cutting.{next_of}
 
 -- a serve
 pub record KnownServed (word : ℕ → ℕ) (s : ℕ) (v : Served) : Type 0 where
@@ -37,9 +48,11 @@ read_known word b ReadEnd c h = record { session = refl; known = h }
 read_known word b ReadFailed c h = record { session = refl; known = h }
 
 cut_known : (word : ℕ → ℕ) (t : Terms) (a : Answers) (k : ℕ) (x : Next) (c : Conn) → (a.look ≡ 0) ⊎ (a.look ≡ word c.session) → Known word c → KnownServed word c.session (cut_by t a k x c)
-cut_known word t a k (NextPacket b) c look h = pushes_known word t a k (Packet c.session c.dispatched b) true (record c { taken = c.taken + 1 }) look h
-cut_known word t a k NextMore c look h = read_known word a.feed_starved a.read c h
-cut_known word t a k (NextStuck e) c look h = record { session = refl; known = h }
+cut_known word t a k (next.Packet b) c look h = pushes_known word t a k (Packet c.session c.dispatched b) true (record c { taken = c.taken + 1 }) look h
+cut_known word t a k next.More c look h = read_known word a.feed_starved a.read c h
+cut_known word t a k (next.TooLong m) c look h = record { session = refl; known = h }
+cut_known word t a k (next.BadLength m) c look h = record { session = refl; known = h }
+cut_known word t a k next.OutOfMemory c look h = record { session = refl; known = h }
 
 end_known : (word : ℕ → ℕ) (t : Terms) (a : Answers) (k : ℕ) (e : Cause) (c : Conn) → (a.look ≡ 0) ⊎ (a.look ≡ word c.session) → Known word c → KnownServed word c.session (end_by t a k e c)
 end_known word t a k e c look h = pick (closes t c.phase)
@@ -48,32 +61,33 @@ end_known word t a k e c look h = pick (closes t c.phase)
     pick true = pushes_known word t a k (Closed c.session) false c look h
     pick false = record { session = refl; known = h }
 
-cause_known : (word : ℕ → ℕ) (t : Terms) (fault : List (List ℕ) → Fault) (a : Answers) (k : ℕ) (o : Option Cause) (c : Conn) → (a.look ≡ 0) ⊎ (a.look ≡ word c.session) → Known word c → KnownServed word c.session (cause_by t fault a k o c)
-cause_known word t fault a k None c look h = pick (nat_lt c.dispatched (2 ^ 64 - 1))
+cause_known : (word : ℕ → ℕ) (t : Terms) (a : Answers) (k : ℕ) (o : Option Cause) (c : Conn) → (a.look ≡ 0) ⊎ (a.look ≡ word c.session) → Known word c → KnownServed word c.session (cause_by t a k o c)
+cause_known word t a k None c look h = pick (nat_lt c.dispatched (2 ^ 64 - 1))
   where
-    pick : (b : Bool) → KnownServed word c.session (if b then cut_by t a k (next_of t fault a.cut_starved c) c else plain c Stays)
-    pick true = cut_known word t a k (next_of t fault a.cut_starved c) c look h
+    pick : (b : Bool) → KnownServed word c.session (if b then cuts_next t a k c else plain c Stays)
+    pick true = cut_known word t a k (starve a.cut_starved (next_of (cutter t c))) c look h
     pick false = record { session = refl; known = h }
-cause_known word t fault a k (Some e) c look h = end_known word t a k e c look h
+cause_known word t a k (Some e) c look h = end_known word t a k e c look h
 
-open_known : (word : ℕ → ℕ) (t : Terms) (fault : List (List ℕ) → Fault) (a : Answers) (k : ℕ) (c : Conn) → (a.look ≡ 0) ⊎ (a.look ≡ word c.session) → Known word c → KnownServed word c.session (open_by t fault a k c)
-open_known word t fault a k c look h = pick (connects t c.phase)
+open_known : (word : ℕ → ℕ) (t : Terms) (a : Answers) (k : ℕ) (c : Conn) → (a.look ≡ 0) ⊎ (a.look ≡ word c.session) → Known word c → KnownServed word c.session (open_by t a k c)
+open_known word t a k c look h = pick (connects t c.phase)
   where
-    pick : (b : Bool) → KnownServed word c.session (if b then pushes t a k (Connect c.session) false c else cause_by t fault a k c.cause c)
+    pick : (b : Bool) → KnownServed word c.session (if b then pushes t a k (Connect c.session) false c else cause_by t a k c.cause c)
     pick true = pushes_known word t a k (Connect c.session) false c look h
-    pick false = cause_known word t fault a k c.cause c look h
+    pick false = cause_known word t a k c.cause c look h
 
-held_known : (word : ℕ → ℕ) (t : Terms) (fault : List (List ℕ) → Fault) (a : Answers) (k : ℕ) (o : Option (ℕ × Event)) (c : Conn) → (a.look ≡ 0) ⊎ (a.look ≡ word c.session) → Known word c → KnownServed word c.session (held_by t fault a k o c)
-held_known word t fault a k (Some x) c look h = record { session = refl; known = h }
-held_known word t fault a k None c look h = open_known word t fault a k c look h
+held_known : (word : ℕ → ℕ) (t : Terms) (a : Answers) (k : ℕ) (o : Option (ℕ × Event)) (c : Conn) → (a.look ≡ 0) ⊎ (a.look ≡ word c.session) → Known word c → KnownServed word c.session (held_by t a k o c)
+held_known word t a k (Some x) c look h = record { session = refl; known = h }
+held_known word t a k None c look h = open_known word t a k c look h
 
 -- point 1 changes neither uid nor session
-flushed_same : (w : Wrote) (c : Conn) → ((flushed w c).session ≡ c.session) × ((flushed w c).uid ≡ c.uid)
+flushed_same : (w : LinkWrite) (c : Conn) → ((flushed w c).session ≡ c.session) × ((flushed w c).uid ≡ c.uid)
 flushed_same w c = pick (is_hard c.cause)
   where
-    written : (v : Wrote) → ((wrote v c).session ≡ c.session) × ((wrote v c).uid ≡ c.uid)
-    written (WroteBytes k) = (refl, refl)
-    written WriteFailed = (refl, refl)
+    written : (v : LinkWrite) → ((wrote v c).session ≡ c.session) × ((wrote v c).uid ≡ c.uid)
+    written (writing.Took k) = (refl, refl)
+    written writing.NotYet = (refl, refl)
+    written writing.Failed = (refl, refl)
 
     some : (us : List ℕ) → ((flushed_some w us c).session ≡ c.session) × ((flushed_some w us c).uid ≡ c.uid)
     some [] = (refl, refl)
@@ -83,12 +97,12 @@ flushed_same w c = pick (is_hard c.cause)
     pick true = (refl, refl)
     pick false = some c.unsent
 
-serve_known : (word : ℕ → ℕ) (t : Terms) (fault : List (List ℕ) → Fault) (a : Answers) (k : ℕ) (c : Conn) → (a.look ≡ 0) ⊎ (a.look ≡ word c.session) → Known word c → KnownServed word c.session (serve t fault a k c)
-serve_known word t fault a k c look h =
+serve_known : (word : ℕ → ℕ) (t : Terms) (a : Answers) (k : ℕ) (c : Conn) → (a.look ≡ 0) ⊎ (a.look ≡ word c.session) → Known word c → KnownServed word c.session (serve t a k c)
+serve_known word t a k c look h =
     let d : Conn = flushed a.write c in
     let f = flushed_same a.write c in
     let g : Known word (tidied a c) = elim h [ inl z ↦ inl (f.1 ∙ z) | inr z ↦ inr (f.1 ∙ z ∙ ap word (sym f.0)) ] in
-    let v = held_known word t fault a k (tidied a c).held (tidied a c) (elim look [ inl z ↦ inl z | inr z ↦ inr (z ∙ ap word (sym f.0)) ]) g in
+    let v = held_known word t a k (tidied a c).held (tidied a c) (elim look [ inl z ↦ inl z | inr z ↦ inr (z ∙ ap word (sym f.0)) ]) g in
     record { session = v.session ∙ f.0; known = v.known }
 
 -- changes of all connections
@@ -178,13 +192,13 @@ back_known word t Nothing m r h = h
 back_known word t Rest m r h = h
 back_known word t Finished m r h = h
 
-settled_known : (word : ℕ → ℕ) (t : Terms) (starved : Bool) (got : Got) (r : Reactor) → Each (Known word) (all r) → Each (Known word) (all (settled t starved got r))
+settled_known : (word : ℕ → ℕ) (t : Terms) (starved : Bool) (got : Got Message) (r : Reactor) → Each (Known word) (all r) → Each (Known word) (all (settled t starved got r))
 settled_known word t starved Start r h = h
 settled_known word t starved (Took m) r h = msg_known word t starved m (record r { empty = false }) h
 settled_known word t starved Empty r h = h
 settled_known word t starved Pushed r h = pushed_known word t r.last r h
 settled_known word t starved (Full m) r h = back_known word t r.last m r h
-settled_known word t starved GotNothing r h = h
+settled_known word t starved gots.Nothing r h = h
 
 -- what is chosen
 turned_known : (word : ℕ → ℕ) (done cs : List Conn) (r : Reactor) → Each (Known word) (done ++ cs) → Each (Known word) (all (turned done cs r))
@@ -213,13 +227,13 @@ ends_known word t r h = pick (nat_lt 0 r.ends) (nat_lt r.given t.worker_num) (r.
 next_known : (word : ℕ → ℕ) (r : Reactor) (c : Conn) (cs : List Conn) → r.next ≡ c ∷ cs → Each (Known word) (all r) → Known word c × Each (Known word) cs
 next_known word r c cs e h = (let g : Each (Known word) (c ∷ cs) = subst (Each (Known word)) e (each_right (Known word) r.done r.next h) in (g.0, g.1))
 
-serves_known : (word : ℕ → ℕ) (t : Terms) (fault : List (List ℕ) → Fault) (a : Answers) (r : Reactor) → IsFaithful t word a r → (next : List Conn) → r.next ≡ next → Each (Known word) (all r) → Each (Known word) (all (serves t fault a next r))
-serves_known word t fault a r f [] e h = ends_known word t r h
-serves_known word t fault a r f (c ∷ cs) e h =
-    let v : Served = serve t fault a r.round c in
+serves_known : (word : ℕ → ℕ) (t : Terms) (a : Answers) (r : Reactor) → IsFaithful t word a r → (next : List Conn) → r.next ≡ next → Each (Known word) (all r) → Each (Known word) (all (serves t a next r))
+serves_known word t a r f [] e h = ends_known word t r h
+serves_known word t a r f (c ∷ cs) e h =
+    let v : Served = serve t a r.round c in
     let front : Each (Known word) r.done = each_left (Known word) r.done r.next h in
     let back = next_known word r c cs e h in
-    let s : KnownServed word c.session v = serve_known word t fault a r.round c (f.look c cs e) back.0 in
+    let s : KnownServed word c.session v = serve_known word t a r.round c (f.look c cs e) back.0 in
     served_known word t a (writes a.write c) cs v.conn v.does (record r { round = counted v.cuts r.round })
       (each_append (Known word) (r.done ++ v.conn ∷ []) cs (each_append (Known word) r.done (v.conn ∷ []) front (s.known, tt)) back.1)
       (each_append (Known word) r.done cs front back.1)
@@ -228,32 +242,32 @@ stops_known : (word : ℕ → ℕ) (r : Reactor) → Each (Known word) (all r) �
 stops_known word r h true = each_known word stops (λ c k. k) r h
 stops_known word r h false = h
 
-chosen_known : (word : ℕ → ℕ) (t : Terms) (fault : List (List ℕ) → Fault) (a : Answers) (r : Reactor) → IsFaithful t word a r → Each (Known word) (all r) → (ask : Ask) → Each (Known word) (all (chosen t fault a ask r))
-chosen_known word t fault a r f h Take = serves_known word t fault a r f r.next refl h
-chosen_known word t fault a r f h (Push w m) = stops_known word r h a.stop
-chosen_known word t fault a r f h Nothing = stops_known word r h a.stop
-chosen_known word t fault a r f h Rest = stops_known word r h a.stop
-chosen_known word t fault a r f h Finished = stops_known word r h a.stop
+chosen_known : (word : ℕ → ℕ) (t : Terms) (a : Answers) (r : Reactor) → IsFaithful t word a r → Each (Known word) (all r) → (ask : Ask) → Each (Known word) (all (chosen t a ask r))
+chosen_known word t a r f h Take = serves_known word t a r f r.next refl h
+chosen_known word t a r f h (Push w m) = stops_known word r h a.stop
+chosen_known word t a r f h Nothing = stops_known word r h a.stop
+chosen_known word t a r f h Rest = stops_known word r h a.stop
+chosen_known word t a r f h Finished = stops_known word r h a.stop
 
 -- all runs
-pub runs_known : (word : ℕ → ℕ) (t : Terms) (fault : List (List ℕ) → Fault) (took pushed : Mail) (r : Reactor) → Runs t fault word took pushed r → Each (Known word) (all r)
-runs_known word t fault _ _ _ (First starved a f) = chosen_known word t fault a started f tt started.last
-runs_known word t fault _ _ _ (Then {took = took} {pushed = pushed} {r = r} before later more got call starved a f) =
-    chosen_known word t fault a (settled t starved got r) f (settled_known word t starved got r (runs_known word t fault took pushed r before)) r.last
+pub runs_known : (word : ℕ → ℕ) (t : Terms) (took pushed : Mail) (r : Reactor) → Runs t word took pushed r → Each (Known word) (all r)
+runs_known word t _ _ _ (First starved a f) = chosen_known word t a started f tt started.last
+runs_known word t _ _ _ (Then {took = took} {pushed = pushed} {r = r} before later more got call starved a f) =
+    chosen_known word t a (settled t starved got r) f (settled_known word t starved got r (runs_known word t took pushed r before)) r.last
 
 -- so what is released is what was seen
-pub honest_of : (word : ℕ → ℕ) (t : Terms) (fault : List (List ℕ) → Fault) (a : Answers) (r : Reactor) → IsFaithful t word a r → Each (Known word) (all r) → IsHonest t fault a r
-honest_of word t fault a r f h =
+pub honest_of : (word : ℕ → ℕ) (t : Terms) (a : Answers) (r : Reactor) → IsFaithful t word a r → Each (Known word) (all r) → IsHonest t a r
+honest_of word t a r f h =
     record {
       idle = f.idle;
       released = λ c cs e five.
         (let back = next_known word r c cs e h in
-        let s : KnownServed word c.session (serve t fault a r.round c) = serve_known word t fault a r.round c (f.look c cs e) back.0 in
+        let s : KnownServed word c.session (serve t a r.round c) = serve_known word t a r.round c (f.look c cs e) back.0 in
         elim s.known [ inl z ↦ inl z | inr z ↦ inr (f.released c cs e ∙ sym (z ∙ ap word s.session)) ]);
     }
 
-pub honest_then : (word : ℕ → ℕ) (t : Terms) (fault : List (List ℕ) → Fault) (a : Answers) (starved : Bool) (got : Got) (r : Reactor) → IsFaithful t word a (settled t starved got r) → Each (Known word) (all r) → IsHonest t fault a (settled t starved got r)
-honest_then word t fault a starved got r f h = honest_of word t fault a (settled t starved got r) f (settled_known word t starved got r h)
+pub honest_then : (word : ℕ → ℕ) (t : Terms) (a : Answers) (starved : Bool) (got : Got Message) (r : Reactor) → IsFaithful t word a (settled t starved got r) → Each (Known word) (all r) → IsHonest t a (settled t starved got r)
+honest_then word t a starved got r f h = honest_of word t a (settled t starved got r) f (settled_known word t starved got r h)
 
 -- each ended link tells the uid of its session
 abbrev pub TellsUid : (ℕ → ℕ) → LinkRecord → Type 0
@@ -289,7 +303,7 @@ full_over w (EventMsg e) r = refl
 full_over w (OverMsg id) r = refl
 full_over w NoMore r = refl
 
-pub settled_over : (t : Terms) (starved : Bool) (got : Got) (r : Reactor) → (settled t starved got r).over ≡ r.over
+pub settled_over : (t : Terms) (starved : Bool) (got : Got Message) (r : Reactor) → (settled t starved got r).over ≡ r.over
 settled_over t starved Start r = refl
 settled_over t starved (Took m) r = msg_over t starved m (record r { empty = false })
 settled_over t starved Empty r = refl
@@ -309,7 +323,7 @@ settled_over t starved (Full m) r = by r.last
     by Nothing = refl
     by Rest = refl
     by Finished = refl
-settled_over t starved GotNothing r = refl
+settled_over t starved gots.Nothing r = refl
 
 pub turned_over : (done cs : List Conn) (r : Reactor) → (turned done cs r).over ≡ r.over
 turned_over done [] r = refl
@@ -334,43 +348,43 @@ served_over word t a moved cs d (Leaves e) r k h = each_append (TellsUid word) r
     tells : TellsUid word (over_link t d a.released e)
     tells x s q z = (let g : account t d a.released e ≡ x = ends_same (account t d a.released e) x q in let u : a.released ≡ x.uid = ap (λ (y : Ended). y.uid) g in let v : d.session ≡ s = some_same d.session s (ap (λ (y : Ended). y.session) g ∙ z) in sym u ∙ k ∙ ap word v)
 
-serves_over : (word : ℕ → ℕ) (t : Terms) (fault : List (List ℕ) → Fault) (a : Answers) (r : Reactor) → IsFaithful t word a r → (next : List Conn) → r.next ≡ next → Each (Known word) (all r) → Each (TellsUid word) r.over → Each (TellsUid word) (serves t fault a next r).over
-serves_over word t fault a r f [] e h g = pick (nat_lt 0 r.ends) (nat_lt r.given t.worker_num) (r.ends == 1 + t.worker_num + t.tasker_num)
+serves_over : (word : ℕ → ℕ) (t : Terms) (a : Answers) (r : Reactor) → IsFaithful t word a r → (next : List Conn) → r.next ≡ next → Each (Known word) (all r) → Each (TellsUid word) r.over → Each (TellsUid word) (serves t a next r).over
+serves_over word t a r f [] e h g = pick (nat_lt 0 r.ends) (nat_lt r.given t.worker_num) (r.ends == 1 + t.worker_num + t.tasker_num)
   where
     pick : (x y z : Bool) → Each (TellsUid word) (if x then (if y then record r { last = Push r.given NoMore } else (if z then record r { last = Finished } else record r { last = Rest })) else record r { last = Rest }).over
     pick true true z = g
     pick true false true = g
     pick true false false = g
     pick false y z = g
-serves_over word t fault a r f (c ∷ cs) e h g =
-    let v : Served = serve t fault a r.round c in
-    let s : KnownServed word c.session v = serve_known word t fault a r.round c (f.look c cs e) (next_known word r c cs e h).0 in
+serves_over word t a r f (c ∷ cs) e h g =
+    let v : Served = serve t a r.round c in
+    let s : KnownServed word c.session v = serve_known word t a r.round c (f.look c cs e) (next_known word r c cs e h).0 in
     served_over word t a (writes a.write c) cs v.conn v.does (record r { round = counted v.cuts r.round }) (f.released c cs e ∙ ap word (sym s.session)) g
 
-chosen_over : (word : ℕ → ℕ) (t : Terms) (fault : List (List ℕ) → Fault) (a : Answers) (r : Reactor) → IsFaithful t word a r → Each (Known word) (all r) → Each (TellsUid word) r.over → (ask : Ask) → Each (TellsUid word) (chosen t fault a ask r).over
-chosen_over word t fault a r f h g Take = serves_over word t fault a r f r.next refl h g
-chosen_over word t fault a r f h g (Push w m) = stop_over word r g a.stop
+chosen_over : (word : ℕ → ℕ) (t : Terms) (a : Answers) (r : Reactor) → IsFaithful t word a r → Each (Known word) (all r) → Each (TellsUid word) r.over → (ask : Ask) → Each (TellsUid word) (chosen t a ask r).over
+chosen_over word t a r f h g Take = serves_over word t a r f r.next refl h g
+chosen_over word t a r f h g (Push w m) = stop_over word r g a.stop
   where
     stop_over : (word : ℕ → ℕ) (r : Reactor) → Each (TellsUid word) r.over → (b : Bool) → Each (TellsUid word) (record (if b then each_conn stops r else r) { last = Take }).over
     stop_over word r g true = g
     stop_over word r g false = g
-chosen_over word t fault a r f h g Nothing = pick a.stop
+chosen_over word t a r f h g Nothing = pick a.stop
   where
     pick : (b : Bool) → Each (TellsUid word) (record (if b then each_conn stops r else r) { last = Take }).over
     pick true = g
     pick false = g
-chosen_over word t fault a r f h g Rest = pick a.stop
+chosen_over word t a r f h g Rest = pick a.stop
   where
     pick : (b : Bool) → Each (TellsUid word) (record (if b then each_conn stops r else r) { last = Take }).over
     pick true = g
     pick false = g
-chosen_over word t fault a r f h g Finished = pick a.stop
+chosen_over word t a r f h g Finished = pick a.stop
   where
     pick : (b : Bool) → Each (TellsUid word) (record (if b then each_conn stops r else r) { last = Take }).over
     pick true = g
     pick false = g
 
-pub runs_over : (word : ℕ → ℕ) (t : Terms) (fault : List (List ℕ) → Fault) (took pushed : Mail) (r : Reactor) → Runs t fault word took pushed r → Each (TellsUid word) r.over
-runs_over word t fault _ _ _ (First starved a f) = chosen_over word t fault a started f tt tt started.last
-runs_over word t fault _ _ _ (Then {took = took} {pushed = pushed} {r = r} before later more got call starved a f) =
-    chosen_over word t fault a (settled t starved got r) f (settled_known word t starved got r (runs_known word t fault took pushed r before)) (subst (Each (TellsUid word)) (sym (settled_over t starved got r)) (runs_over word t fault took pushed r before)) r.last
+pub runs_over : (word : ℕ → ℕ) (t : Terms) (took pushed : Mail) (r : Reactor) → Runs t word took pushed r → Each (TellsUid word) r.over
+runs_over word t _ _ _ (First starved a f) = chosen_over word t a started f tt tt started.last
+runs_over word t _ _ _ (Then {took = took} {pushed = pushed} {r = r} before later more got call starved a f) =
+    chosen_over word t a (settled t starved got r) f (settled_known word t starved got r (runs_known word t took pushed r before)) (subst (Each (TellsUid word)) (sym (settled_over t starved got r)) (runs_over word t took pushed r before)) r.last

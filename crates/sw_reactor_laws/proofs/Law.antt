@@ -1,6 +1,8 @@
 -- A quiet reactor shows its law at every moment: with nothing on its way, with a message taken and not settled, with an event
 -- pushed and not noted, and where a push is asked for or came back.
-use Rattle.std.proofs.Common.{◌≡◌, ℕ, ◌<◌, ◌==◌, Bool, true, false, if◌then◌else◌, List, [], ◌∷◌, ◌++◌, refl, ap, ◌∙◌, sym, subst, Option, Some, None, inl, inr, zero, suc}
+use Rattle.std.proofs.Common.{◌≡◌, ℕ, ◌<◌, ◌==◌, Bool, true, false, if◌then◌else◌, List, [], ◌∷◌, ◌++◌, refl, ap, ◌∙◌, sym, subst, Option, Some, None, inl, inr, zero, suc, map}
+use Rattle.sw_data.specs.declared.messages.Got.{Got}
+use Rattle.sw_data.specs.declared.messages.Got.TheVariants.{Start, Full}
 use Rattle.sw_lists.specs.Lists.{collect, Each, Has}
 use Rattle.sw_lists.specs.Numbers.{Rises}
 use Rattle.sw_lists.proofs.Lists.{each_append, each_left, each_more, rises_left}
@@ -16,8 +18,8 @@ use Rattle.sw_past.specs.Past.{Mail, bare}
 use Rattle.sw_past.specs.Views.{story_in, fresh_in}
 use Rattle.sw_past.specs.Routes.{IsRouted, IsFair, ToWorker, MayPush}
 use Rattle.sw_join.specs.Laws.{IsKept, ReactorShows, ReactorLaw}
-use Rattle.sw_reactor_laws.specs.Conn.{Conn, Fault, noted, holds, at_event, live_link}
-use Rattle.sw_reactor_laws.specs.Reactor.{Reactor, Ask, Take, Push, Nothing, Rest, Finished, Got, Start, Full, all, map, each_conn, settled, settled_push, settled_full, pushed_by, full_by, started, live_links, kept}
+use Rattle.sw_reactor_laws.specs.Conn.{Conn, noted, holds, at_event, live_link}
+use Rattle.sw_reactor_laws.specs.Reactor.{Reactor, Ask, Take, Push, Nothing, Rest, Finished, all, each_conn, settled, settled_push, settled_full, pushed_by, full_by, started, live_links, kept}
 use Rattle.sw_reactor_laws.specs.Quiet.{QuietConn, QuietOver, Quiet, QuietBy, QuietAfter, Grows, session_in, some_list, session_over, sessions}
 use Rattle.sw_reactor_laws.specs.Modes.{ModeLaws, back_link}
 use Rattle.sw_reactor_laws.specs.Runs.{Called, TookOne, FoundNone, PushedOne, CameBack, NoCall, Runs, First, Then, Straight, AsksBelow}
@@ -181,14 +183,14 @@ after_shows t a w m n took pushed r q = by_shows t a w m n took pushed r r.last 
 fair_before : (t : Terms) (n : ℕ) (took : Mail) (x : ActorId × Message) → IsFair t n (took ++ x ∷ []) → IsFair t n took
 fair_before t n took x f = record { routed = each_left (λ (e : ActorId × Message). MayPush t e.0 (mail.Reactor n) e.1) took (x ∷ []) f.routed; once = rises_left (collect fresh_in (bare took)) (fresh_in x.1) (subst Rises (more_of fresh_in took x) f.once) }
 
-pub call_fair : (t : Terms) (n : ℕ) (r : Reactor) (took pushed later more : Mail) (got : Got) → Called r took pushed later more got → IsFair t n later → IsFair t n took
+pub call_fair : (t : Terms) (n : ℕ) (r : Reactor) (took pushed later more : Mail) (got : Got Message) → Called r took pushed later more got → IsFair t n later → IsFair t n took
 call_fair t n r took pushed _ _ _ (TookOne e from m) f = fair_before t n took (from, m) f
 call_fair t n r took pushed _ _ _ (FoundNone e) f = f
 call_fair t n r took pushed _ _ _ (PushedOne v m e) f = f
 call_fair t n r took pushed _ _ _ (CameBack v m e) f = f
 call_fair t n r took pushed _ _ _ (NoCall e) f = f
 
-pub call_quiet : (t : Terms) (a : Aim) (w : Ending) (n : ℕ) (r : Reactor) (took pushed later more : Mail) (got : Got) → Called r took pushed later more got → IsFair t n later → QuietAfter t a w n took pushed r → (starved : Bool) → Quiet t a w n later more (settled t starved got r)
+pub call_quiet : (t : Terms) (a : Aim) (w : Ending) (n : ℕ) (r : Reactor) (took pushed later more : Mail) (got : Got Message) → Called r took pushed later more got → IsFair t n later → QuietAfter t a w n took pushed r → (starved : Bool) → Quiet t a w n later more (settled t starved got r)
 call_quiet t a w n r took pushed _ _ _ (TookOne e from m) f q starved = (subst (QuietBy t a w n took pushed r) e q).1 starved from m f
 call_quiet t a w n r took pushed _ _ _ (FoundNone e) f q starved = (subst (QuietBy t a w n took pushed r) e q).0
 call_quiet t a w n r took pushed _ _ _ (PushedOne v m e) f q starved = (subst (QuietBy t a w n took pushed r) e q).0
@@ -196,7 +198,7 @@ call_quiet t a w n r took pushed _ _ _ (CameBack v m e) f q starved = (subst (Qu
 call_quiet t a w n r took pushed _ _ _ (NoCall (inl e)) f q starved = subst (QuietBy t a w n took pushed r) e q
 call_quiet t a w n r took pushed _ _ _ (NoCall (inr e)) f q starved = subst (QuietBy t a w n took pushed r) e q
 
-pub call_shows : (t : Terms) (a : Aim) (w : Ending) → ModeLaws t a w → (n : ℕ) (r : Reactor) (took pushed later more : Mail) (got : Got) → Called r took pushed later more got → QuietAfter t a w n took pushed r → ReactorShows t a w n later more (kept t r)
+pub call_shows : (t : Terms) (a : Aim) (w : Ending) → ModeLaws t a w → (n : ℕ) (r : Reactor) (took pushed later more : Mail) (got : Got Message) → Called r took pushed later more got → QuietAfter t a w n took pushed r → ReactorShows t a w n later more (kept t r)
 call_shows t a w m n r took pushed _ _ _ (TookOne e from x) q = took_shows t a w n took pushed (kept t r) (from, x) (after_shows t a w m n took pushed r q)
 call_shows t a w m n r took pushed _ _ _ (FoundNone e) q = after_shows t a w m n took pushed r q
 call_shows t a w m n r took pushed _ _ _ (PushedOne v x e) q = pushed_shows t a w m n took (pushed ++ (Worker v, x) ∷ []) x r (subst (λ (k : Ask). Quiet t a w n took (pushed ++ (Worker v, x) ∷ []) (pushed_by t k r)) e (subst (QuietBy t a w n took pushed r) e q).0)
@@ -204,46 +206,46 @@ call_shows t a w m n r took pushed _ _ _ (CameBack v x e) q = after_shows t a w 
 call_shows t a w m n r took pushed _ _ _ (NoCall e) q = after_shows t a w m n took pushed r q
 
 -- all runs
-pub runs_quiet : (t : Terms) (a : Aim) (w : Ending) → ModeLaws t a w → (fault : List (List ℕ) → Fault) (word : ℕ → ℕ) → 0 < t.worker_num → Grows t → (n : ℕ) → n < t.reactor_num → (took pushed : Mail) (r : Reactor) → Runs t fault word took pushed r → IsFair t n took → QuietAfter t a w n took pushed r
-runs_quiet t a w m fault word some grows n small _ _ _ (First starved ans faith) f = turn_quiet t a w m fault starved ans Start some grows n small [] [] started (honest_of word t fault ans started faith tt) (started_quiet t a w n)
-runs_quiet t a w m fault word some grows n small _ _ _ (Then {took = took} {pushed = pushed} {r = r} before later more got call starved ans faith) f =
-    turn_quiet t a w m fault starved ans got some grows n small later more r (honest_then word t fault ans starved got r faith (runs_known word t fault took pushed r before))
-      (call_quiet t a w n r took pushed later more got call f (runs_quiet t a w m fault word some grows n small took pushed r before (call_fair t n r took pushed later more got call f)) starved)
+pub runs_quiet : (t : Terms) (a : Aim) (w : Ending) → ModeLaws t a w → (word : ℕ → ℕ) → 0 < t.worker_num → Grows t → (n : ℕ) → n < t.reactor_num → (took pushed : Mail) (r : Reactor) → Runs t word took pushed r → IsFair t n took → QuietAfter t a w n took pushed r
+runs_quiet t a w m word some grows n small _ _ _ (First starved ans faith) f = turn_quiet t a w m starved ans Start some grows n small [] [] started (honest_of word t ans started faith tt) (started_quiet t a w n)
+runs_quiet t a w m word some grows n small _ _ _ (Then {took = took} {pushed = pushed} {r = r} before later more got call starved ans faith) f =
+    turn_quiet t a w m starved ans got some grows n small later more r (honest_then word t ans starved got r faith (runs_known word t took pushed r before))
+      (call_quiet t a w n r took pushed later more got call f (runs_quiet t a w m word some grows n small took pushed r before (call_fair t n r took pushed later more got call f)) starved)
 
-call_below : (t : Terms) (r : Reactor) (took pushed later more : Mail) (got : Got) → Called r took pushed later more got → Straight t pushed r → Each (ToWorker t) more
+call_below : (t : Terms) (r : Reactor) (took pushed later more : Mail) (got : Got Message) → Called r took pushed later more got → Straight t pushed r → Each (ToWorker t) more
 call_below t r took pushed _ _ _ (TookOne e from m) s = s.pushed_is
 call_below t r took pushed _ _ _ (FoundNone e) s = s.pushed_is
 call_below t r took pushed _ _ _ (PushedOne v m e) s = each_append (ToWorker t) pushed ((Worker v, m) ∷ []) s.pushed_is (subst (AsksBelow t) e s.asks, tt)
 call_below t r took pushed _ _ _ (CameBack v m e) s = s.pushed_is
 call_below t r took pushed _ _ _ (NoCall e) s = s.pushed_is
 
-pub runs_straight : (t : Terms) (fault : List (List ℕ) → Fault) (word : ℕ → ℕ) → 0 < t.worker_num → (took pushed : Mail) (r : Reactor) → Runs t fault word took pushed r → Straight t pushed r
-runs_straight t fault word some _ _ _ (First starved ans honest) = turn_below t fault starved ans Start [] started some honest.idle tt tt tt
-runs_straight t fault word some _ _ _ (Then {took = took} {pushed = pushed} {r = r} before later more got call starved ans honest) =
-    let s : Straight t pushed r = runs_straight t fault word some took pushed r before in
-    turn_below t fault starved ans got more r some honest.idle (call_below t r took pushed later more got call s) s.held s.asks
+pub runs_straight : (t : Terms) (word : ℕ → ℕ) → 0 < t.worker_num → (took pushed : Mail) (r : Reactor) → Runs t word took pushed r → Straight t pushed r
+runs_straight t word some _ _ _ (First starved ans honest) = turn_below t starved ans Start [] started some honest.idle tt tt tt
+runs_straight t word some _ _ _ (Then {took = took} {pushed = pushed} {r = r} before later more got call starved ans honest) =
+    let s : Straight t pushed r = runs_straight t word some took pushed r before in
+    turn_below t starved ans got more r some honest.idle (call_below t r took pushed later more got call s) s.held s.asks
 
 -- THE LAW, before a pipe call and behind it
-pub reactor_law : (t : Terms) (a : Aim) (w : Ending) → ModeLaws t a w → (fault : List (List ℕ) → Fault) (word : ℕ → ℕ) → 0 < t.worker_num → Grows t → (n : ℕ) → n < t.reactor_num → (took pushed : Mail) (r : Reactor) → Runs t fault word took pushed r → ReactorLaw t a w n took pushed (kept t r)
-reactor_law t a w m fault word some grows n small took pushed r runs =
+pub reactor_law : (t : Terms) (a : Aim) (w : Ending) → ModeLaws t a w → (word : ℕ → ℕ) → 0 < t.worker_num → Grows t → (n : ℕ) → n < t.reactor_num → (took pushed : Mail) (r : Reactor) → Runs t word took pushed r → ReactorLaw t a w n took pushed (kept t r)
+reactor_law t a w m word some grows n small took pushed r runs =
     record {
-      to_workers = (runs_straight t fault word some took pushed r runs).pushed_is;
-      shows = λ f. after_shows t a w m n took pushed r (runs_quiet t a w m fault word some grows n small took pushed r runs f);
+      to_workers = (runs_straight t word some took pushed r runs).pushed_is;
+      shows = λ f. after_shows t a w m n took pushed r (runs_quiet t a w m word some grows n small took pushed r runs f);
     }
 
-pub called_law : (t : Terms) (a : Aim) (w : Ending) → ModeLaws t a w → (fault : List (List ℕ) → Fault) (word : ℕ → ℕ) → 0 < t.worker_num → Grows t → (n : ℕ) → n < t.reactor_num → (took pushed : Mail) (r : Reactor) → Runs t fault word took pushed r → (later more : Mail) (got : Got) → Called r took pushed later more got → ReactorLaw t a w n later more (kept t r)
-called_law t a w m fault word some grows n small took pushed r runs later more got call =
+pub called_law : (t : Terms) (a : Aim) (w : Ending) → ModeLaws t a w → (word : ℕ → ℕ) → 0 < t.worker_num → Grows t → (n : ℕ) → n < t.reactor_num → (took pushed : Mail) (r : Reactor) → Runs t word took pushed r → (later more : Mail) (got : Got Message) → Called r took pushed later more got → ReactorLaw t a w n later more (kept t r)
+called_law t a w m word some grows n small took pushed r runs later more got call =
     record {
-      to_workers = call_below t r took pushed later more got call (runs_straight t fault word some took pushed r runs);
-      shows = λ f. call_shows t a w m n r took pushed later more got call (runs_quiet t a w m fault word some grows n small took pushed r runs (call_fair t n r took pushed later more got call f));
+      to_workers = call_below t r took pushed later more got call (runs_straight t word some took pushed r runs);
+      shows = λ f. call_shows t a w m n r took pushed later more got call (runs_quiet t a w m word some grows n small took pushed r runs (call_fair t n r took pushed later more got call f));
     }
 
 -- and where the settling alone was done
-pub settled_law : (t : Terms) (a : Aim) (w : Ending) → ModeLaws t a w → (fault : List (List ℕ) → Fault) (word : ℕ → ℕ) → 0 < t.worker_num → Grows t → (n : ℕ) → n < t.reactor_num → (took pushed : Mail) (r : Reactor) → Runs t fault word took pushed r → (later more : Mail) (got : Got) → Called r took pushed later more got → (starved : Bool) → ReactorLaw t a w n later more (kept t (settled t starved got r))
-settled_law t a w m fault word some grows n small took pushed r runs later more got call starved =
+pub settled_law : (t : Terms) (a : Aim) (w : Ending) → ModeLaws t a w → (word : ℕ → ℕ) → 0 < t.worker_num → Grows t → (n : ℕ) → n < t.reactor_num → (took pushed : Mail) (r : Reactor) → Runs t word took pushed r → (later more : Mail) (got : Got Message) → Called r took pushed later more got → (starved : Bool) → ReactorLaw t a w n later more (kept t (settled t starved got r))
+settled_law t a w m word some grows n small took pushed r runs later more got call starved =
     record {
-      to_workers = call_below t r took pushed later more got call (runs_straight t fault word some took pushed r runs);
-      shows = λ f. quiet_shows t a w m n later more (settled t starved got r) (call_quiet t a w n r took pushed later more got call f (runs_quiet t a w m fault word some grows n small took pushed r runs (call_fair t n r took pushed later more got call f)) starved);
+      to_workers = call_below t r took pushed later more got call (runs_straight t word some took pushed r runs);
+      shows = λ f. quiet_shows t a w m n later more (settled t starved got r) (call_quiet t a w n r took pushed later more got call f (runs_quiet t a w m word some grows n small took pushed r runs (call_fair t n r took pushed later more got call f)) starved);
     }
 
 -- a run that could not start: what the reactor settled comes back, each link of the list with the cause Stop
@@ -259,9 +261,9 @@ back_none t s [] ls h = over_none s ls h
 back_none t s (c ∷ cs) ls h = ((λ e. h (back_link t c.ip c.session c.uid c.split c.pieces c.written c.dispatched) (0, refl) (ap Some e)), back_none t s cs ls (λ l has. h l (suc has.0, has.1)))
 
 pub back_shows : (t : Terms) (a : Aim) (w : Ending) → ModeLaws t a w → t.start_fault ≡ true → (n : ℕ) (took pushed : Mail) (r : Reactor) → Quiet t a w n took pushed r → ReactorShows t a w n took pushed (back_links t (all r) ++ r.over)
-back_shows t a w m fault n took pushed r q =
+back_shows t a w m start n took pushed r q =
     record {
       routed = q.routed;
       stranger = λ s none. q.stranger s (back_none t s (all r) r.over none);
-      keeps = λ s l has e. each_has (Told t a w took pushed) (back_links t (all r) ++ r.over) (each_append (Told t a w took pushed) (back_links t (all r)) r.over (back_told t a w took pushed (all r) (each_more (QuietConn t n took pushed) (λ c. IsKept t a w c.session (back_link t c.ip c.session c.uid c.split c.pieces c.written c.dispatched) took pushed) (all r) (λ c g. back_kept t a w m fault n took pushed c g) q.conns)) (over_told t a w took pushed r.over q.over)) l has s e;
+      keeps = λ s l has e. each_has (Told t a w took pushed) (back_links t (all r) ++ r.over) (each_append (Told t a w took pushed) (back_links t (all r)) r.over (back_told t a w took pushed (all r) (each_more (QuietConn t n took pushed) (λ c. IsKept t a w c.session (back_link t c.ip c.session c.uid c.split c.pieces c.written c.dispatched) took pushed) (all r) (λ c g. back_kept t a w m start n took pushed c g) q.conns)) (over_told t a w took pushed r.over q.over)) l has s e;
     }

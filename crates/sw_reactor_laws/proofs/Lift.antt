@@ -1,5 +1,5 @@
 -- From one connection to the list: one is served, the others and the ended links stay as they are.
-use Rattle.std.proofs.Common.{◌≡◌, ℕ, ◌<◌, Bool, true, false, if◌then◌else◌, List, [], ◌∷◌, ◌++◌, length, refl, ap, ◌∙◌, sym, subst, append-nil, append_assoc, arith, Option, Some, None}
+use Rattle.std.proofs.Common.{◌≡◌, ℕ, ◌<◌, Bool, true, false, if◌then◌else◌, List, [], ◌∷◌, ◌++◌, length, refl, ap, ◌∙◌, sym, subst, append-nil, append_assoc, arith, Option, Some, None, map}
 use Rattle.sw_lists.specs.Lists.{collect, Each}
 use Rattle.sw_lists.specs.Numbers.{Rises, Distinct}
 use Rattle.sw_lists.specs.Perm.{Perm, Nil, Skip, Swap, Then}
@@ -16,7 +16,6 @@ use Rattle.sw_past.specs.Past.{Mail, bare}
 use Rattle.sw_past.specs.Views.{story_in, fresh_in, due_in}
 use Rattle.sw_past.specs.Routes.{MayTell, MayPush, IsFair}
 use Rattle.sw_reactor_laws.specs.Conn.{Conn, fresh, at_event, account, over_link}
-use Rattle.sw_reactor_laws.specs.Reactor.{map}
 use Rattle.sw_reactor_laws.specs.Quiet.{IsCaused, Flows, IsAimed, QuietConn, QuietOver, QuietLists, IsOf, IsOver, session_in, some_list, session_over, sessions, dues}
 use Rattle.sw_reactor_laws.specs.Modes.{ModeLaws, IsReleased}
 use Rattle.sw_reactor_laws.proofs.Flow.{more_of, why_more}

@@ -1,12 +1,19 @@
 -- Mode 1: a serve takes one turn for each packet that it takes from the cutter, and the packet goes to that turn's worker.
 use Rattle.std.proofs.Common.{◌≡◌, ◌⊎◌, ℕ, ◌+◌, ◌<◌, ◌≤◌, ◌%◌, ◌==◌, ◌-◌, ◌^◌, Bool, true, false, nat_lt, if◌then◌else◌, List, [], ◌∷◌, ◌++◌, length, refl, ap, ◌∙◌, sym, subst, arith, Option, Some, None, inr, zero, suc}
 use Rattle.std.proofs.Math.Nat.{mod-lt}
+use Rattle.sw_link.specs.declared.link.LinkWrite.{LinkWrite}
+use Rattle.sw_link.specs.Reads.{Read, GotPiece, ReadNotYet, ReadEnd, ReadFailed}
+use Rattle.sw_conn.specs.Causes.{is_hard, drops}
+use Rattle.sw_conn.specs.Conn.{drop_packet}
+use Rattle.sw_link.specs.declared.link.LinkWrite.TheVariants as writing
+use Rattle.sw_frame.specs.declared.next.Next.{Next}
+use Rattle.sw_frame.specs.declared.next.Next.TheVariants as next
 use Rattle.sw_lists.specs.Lists.{collect, Each}
 use Rattle.sw_lists.specs.Numbers.{sum_below}
 use Rattle.sw_lists.proofs.Lists.{eq_same, eq_other, eq_is}
 use Rattle.sw_lists.proofs.Sums.{sum_add, sum_each}
 use Rattle.sw_step.specs.declared.actor.ActorId.{ActorId}
-use Rattle.sw_record.specs.Words.{Event, Connect, Packet, Closed, Finish, Task, Cause}
+use Rattle.sw_record.specs.Words.{TooLong, BadLength, NoMemory, Event, Connect, Packet, Closed, Finish, Task, Cause}
 use Rattle.sw_record.specs.declared.record.LinkRecord.{LinkRecord}
 use Rattle.sw_record.specs.Terms.{Terms, keeps}
 use Rattle.sw_record.specs.Rounds.{turn_of, rounds}
@@ -16,8 +23,9 @@ use Rattle.sw_past.specs.Past.{Mail, bare}
 use Rattle.sw_past.specs.Routes.{ToWorker, IsWorker}
 use Rattle.sw_past.specs.Views.{packet_msg}
 use Rattle.sw_join.proofs.Counts.{count_of, counts_least}
-use Rattle.sw_reactor_laws.specs.Conn.{Conn, Wrote, WroteBytes, WriteFailed, Read, GotPiece, ReadNotYet, ReadEnd, ReadFailed, Answers, Fault, is_hard, drop_packet, wrote, flushed_some, flushed, drops, Does, Pushes, Moves, Stays, Leaves, Served, looked, place, pushes, plain, Next, NextPacket, NextMore, NextStuck, next_of, read_by, cut_by, closes, can_leave, end_by, cause_by, connects, open_by, held_by, tidied, serve}
+use Rattle.sw_reactor_laws.specs.Conn.{cuts_next, starve, cutter, Conn, Answers, wrote, flushed_some, flushed, Does, Pushes, Moves, Stays, Leaves, Served, looked, place, pushes, plain, read_by, cut_by, closes, can_leave, end_by, cause_by, connects, open_by, held_by, tidied, serve}
 use Rattle.sw_reactor_laws.specs.Round.{sum_of, is_packet, at_worker, held_at, holds_at, cut_of, packets_at, Round}
+use Rattle.sw_frame.specs.Cutting.{next_of}
 
 -- the turns
 pub rounds_more : (w k j : ℕ) → rounds w (k + 1) j ≡ rounds w k j + turn_of w j k
@@ -55,16 +63,16 @@ turns t k cuts j = if cuts then turn_of t.worker_num j k else 0
 abbrev pub one_if : Bool → ℕ
 one_if b = if b then 1 else 0
 
-abbrev pub FitsClaim : Terms → ℕ → Conn → Bool → Conn → Does → Type 0
-FitsClaim t k c cuts d (Pushes w e) = (d.held ≡ None) × ((j : ℕ) → at_worker j w e ≤ holds_at j c + turns t k cuts j)
-FitsClaim t k c cuts d Moves = (j : ℕ) → holds_at j d ≤ holds_at j c
-FitsClaim t k c cuts d Stays = (j : ℕ) → holds_at j d ≤ holds_at j c
-FitsClaim t k c cuts d (Leaves e) = Unit {0}
+abbrev pub Fits : Terms → ℕ → Conn → Bool → Conn → Does → Type 0
+Fits t k c cuts d (Pushes w e) = (d.held ≡ None) × (t.mode ≡ 1 → (j : ℕ) → at_worker j w e ≤ holds_at j c + turns t k cuts j)
+Fits t k c cuts d Moves = (j : ℕ) → holds_at j d ≤ holds_at j c
+Fits t k c cuts d Stays = (j : ℕ) → holds_at j d ≤ holds_at j c
+Fits t k c cuts d (Leaves e) = Unit {0}
 
 pub record RoundServed (t : Terms) (k : ℕ) (c : Conn) (v : Served) : Type 0 where
   pub taken : v.conn.taken ≡ c.taken + one_if v.cuts
   pub sent : v.conn.dispatched ≡ c.dispatched
-  pub fits : FitsClaim t k c v.cuts v.conn v.does
+  pub fits : Fits t k c v.cuts v.conn v.does
 
 place_one : (t : Terms) (a : Answers) (k : ℕ) (c : Conn) → t.mode ≡ 1 → place t a k c ≡ k % t.worker_num
 place_one t a k c e = rw (ap keeps e, eq_other t.mode 5 (λ q. absurd (let z : 1 ≡ 5 = sym e ∙ q in omega arith)), eq_other t.mode 3 (λ q. absurd (let z : 1 ≡ 3 = sym e ∙ q in omega arith))) refl
@@ -88,14 +96,14 @@ no_packet j w e n z = pick (w == j)
 other_round : (t : Terms) (a : Answers) (k : ℕ) (e : Event) (c : Conn) → c.held ≡ None → is_packet e ≡ 0 → RoundServed t k c (pushes t a k e false c)
 other_round t a k e c free z =
     (let s = looked_same t a c in
-    record { taken = s.0 ∙ (let q : c.taken ≡ c.taken + 0 = omega arith in q); sent = s.1; fits = (s.2 ∙ free, λ j. no_packet j (place t a k (looked t a c)) e (holds_at j c + 0) z) })
+    record { taken = s.0 ∙ (let q : c.taken ≡ c.taken + 0 = omega arith in q); sent = s.1; fits = (s.2 ∙ free, λ one j. no_packet j (place t a k (looked t a c)) e (holds_at j c + 0) z) })
 
 -- a packet takes its turn
-packet_round : (t : Terms) (a : Answers) (k : ℕ) (b : List ℕ) (c : Conn) → t.mode ≡ 1 → c.held ≡ None → RoundServed t k c (pushes t a k (Packet c.session c.dispatched b) true (record c { taken = c.taken + 1 }))
-packet_round t a k b c one free =
+packet_round : (t : Terms) (a : Answers) (k : ℕ) (b : List ℕ) (c : Conn) → c.held ≡ None → RoundServed t k c (pushes t a k (Packet c.session c.dispatched b) true (record c { taken = c.taken + 1 }))
+packet_round t a k b c free =
     (let d : Conn = record c { taken = c.taken + 1 } in
     let s = looked_same t a d in
-    record { taken = s.0; sent = s.1; fits = (s.2 ∙ free, λ j. subst (λ (w : ℕ). at_worker j w (Packet c.session c.dispatched b) ≤ holds_at j c + turn_of t.worker_num j k) (sym (place_one t a k (looked t a d) one)) (turn j)) })
+    record { taken = s.0; sent = s.1; fits = (s.2 ∙ free, λ one j. subst (λ (w : ℕ). at_worker j w (Packet c.session c.dispatched b) ≤ holds_at j c + turn_of t.worker_num j k) (sym (place_one t a k (looked t a d) one)) (turn j)) })
   where
     turn : (j : ℕ) → (if (k % t.worker_num) == j then 1 else 0) ≤ holds_at j c + (if (k % t.worker_num) == j then 1 else 0)
     turn j = omega arith
@@ -107,15 +115,17 @@ moves : (t : Terms) (k : ℕ) (c d : Conn) → d.taken ≡ c.taken → d.dispatc
 moves t k c d e f g = record { taken = e ∙ (let q : c.taken ≡ c.taken + 0 = omega arith in q); sent = f; fits = λ j. (let z : holds_at j d ≡ holds_at j c = ap (held_at j) g in omega arith) }
 
 read_round : (t : Terms) (k : ℕ) (starved : Bool) (r : Read) (c : Conn) → RoundServed t k c (read_by starved r c)
-read_round t k starved (GotPiece p) c = moves t k c (record c { pieces = c.pieces ++ p ∷ []; cause = (if starved then _ else _) }) refl refl refl
-read_round t k starved ReadNotYet c = still t k c c refl refl refl
-read_round t k starved ReadEnd c = moves t k c _ refl refl refl
-read_round t k starved ReadFailed c = moves t k c _ refl refl refl
+read_round t k starved (GotPiece p) c = record { taken = (let q : c.taken ≡ c.taken + 0 = omega arith in q); sent = refl; fits = λ j. omega arith }
+read_round t k starved ReadNotYet c = record { taken = (let q : c.taken ≡ c.taken + 0 = omega arith in q); sent = refl; fits = λ j. omega arith }
+read_round t k starved ReadEnd c = record { taken = (let q : c.taken ≡ c.taken + 0 = omega arith in q); sent = refl; fits = λ j. omega arith }
+read_round t k starved ReadFailed c = record { taken = (let q : c.taken ≡ c.taken + 0 = omega arith in q); sent = refl; fits = λ j. omega arith }
 
-cut_round : (t : Terms) (a : Answers) (k : ℕ) (x : Next) (c : Conn) → t.mode ≡ 1 → c.held ≡ None → RoundServed t k c (cut_by t a k x c)
-cut_round t a k (NextPacket b) c one free = packet_round t a k b c one free
-cut_round t a k NextMore c one free = read_round t k a.feed_starved a.read c
-cut_round t a k (NextStuck e) c one free = moves t k c (record c { cause = Some e }) refl refl refl
+cut_round : (t : Terms) (a : Answers) (k : ℕ) (x : Next) (c : Conn) → c.held ≡ None → RoundServed t k c (cut_by t a k x c)
+cut_round t a k (next.Packet b) c free = packet_round t a k b c free
+cut_round t a k next.More c free = read_round t k a.feed_starved a.read c
+cut_round t a k (next.TooLong m) c free = moves t k c (record c { cause = Some (TooLong m) }) refl refl refl
+cut_round t a k (next.BadLength m) c free = moves t k c (record c { cause = Some (BadLength m) }) refl refl refl
+cut_round t a k next.OutOfMemory c free = moves t k c (record c { cause = Some NoMemory }) refl refl refl
 
 end_round : (t : Terms) (a : Answers) (k : ℕ) (e : Cause) (c : Conn) → c.held ≡ None → RoundServed t k c (end_by t a k e c)
 end_round t a k e c free = pick (closes t c.phase)
@@ -128,24 +138,24 @@ end_round t a k e c free = pick (closes t c.phase)
     pick true = other_round t a k (Closed c.session) c free refl
     pick false = leaves (can_leave c)
 
-cause_round : (t : Terms) (fault : List (List ℕ) → Fault) (a : Answers) (k : ℕ) (o : Option Cause) (c : Conn) → t.mode ≡ 1 → c.held ≡ None → RoundServed t k c (cause_by t fault a k o c)
-cause_round t fault a k None c one free = pick (nat_lt c.dispatched (2 ^ 64 - 1))
+cause_round : (t : Terms) (a : Answers) (k : ℕ) (o : Option Cause) (c : Conn) → c.held ≡ None → RoundServed t k c (cause_by t a k o c)
+cause_round t a k None c free = pick (nat_lt c.dispatched (2 ^ 64 - 1))
   where
-    pick : (b : Bool) → RoundServed t k c (if b then cut_by t a k (next_of t fault a.cut_starved c) c else plain c Stays)
-    pick true = cut_round t a k (next_of t fault a.cut_starved c) c one free
+    pick : (b : Bool) → RoundServed t k c (if b then cuts_next t a k c else plain c Stays)
+    pick true = cut_round t a k (starve a.cut_starved (next_of (cutter t c))) c free
     pick false = still t k c c refl refl refl
-cause_round t fault a k (Some e) c one free = end_round t a k e c free
+cause_round t a k (Some e) c free = end_round t a k e c free
 
-open_round : (t : Terms) (fault : List (List ℕ) → Fault) (a : Answers) (k : ℕ) (c : Conn) → t.mode ≡ 1 → c.held ≡ None → RoundServed t k c (open_by t fault a k c)
-open_round t fault a k c one free = pick (connects t c.phase)
+open_round : (t : Terms) (a : Answers) (k : ℕ) (c : Conn) → c.held ≡ None → RoundServed t k c (open_by t a k c)
+open_round t a k c free = pick (connects t c.phase)
   where
-    pick : (b : Bool) → RoundServed t k c (if b then pushes t a k (Connect c.session) false c else cause_by t fault a k c.cause c)
+    pick : (b : Bool) → RoundServed t k c (if b then pushes t a k (Connect c.session) false c else cause_by t a k c.cause c)
     pick true = other_round t a k (Connect c.session) c free refl
-    pick false = cause_round t fault a k c.cause c one free
+    pick false = cause_round t a k c.cause c free
 
-held_round : (t : Terms) (fault : List (List ℕ) → Fault) (a : Answers) (k : ℕ) (o : Option (ℕ × Event)) (c : Conn) → t.mode ≡ 1 → c.held ≡ o → RoundServed t k c (held_by t fault a k o c)
-held_round t fault a k (Some h) c one e = record { taken = (let q : c.taken ≡ c.taken + 0 = omega arith in q); sent = refl; fits = (refl, λ j. (let z : holds_at j c ≡ at_worker j h.0 h.1 = ap (held_at j) e in omega arith)) }
-held_round t fault a k None c one e = open_round t fault a k c one e
+held_round : (t : Terms) (a : Answers) (k : ℕ) (o : Option (ℕ × Event)) (c : Conn) → c.held ≡ o → RoundServed t k c (held_by t a k o c)
+held_round t a k (Some h) c e = record { taken = (let q : c.taken ≡ c.taken + 0 = omega arith in q); sent = refl; fits = (refl, λ one j. (let z : holds_at j c ≡ at_worker j h.0 h.1 = ap (held_at j) e in omega arith)) }
+held_round t a k None c e = open_round t a k c e
 
 -- point 1 holds no more than before
 drop_less : (j : ℕ) (o : Option (ℕ × Event)) → held_at j (drop_packet o) ≤ held_at j o
@@ -156,12 +166,13 @@ drop_less j (Some (w, Closed s)) = omega arith
 drop_less j (Some (w, Finish id b)) = omega arith
 drop_less j (Some (w, Task v id b)) = omega arith
 
-flushed_round : (w : Wrote) (c : Conn) → ((flushed w c).taken ≡ c.taken) × ((flushed w c).dispatched ≡ c.dispatched) × ((flushed w c).held ≡ c.held)
+flushed_round : (w : LinkWrite) (c : Conn) → ((flushed w c).taken ≡ c.taken) × ((flushed w c).dispatched ≡ c.dispatched) × ((flushed w c).held ≡ c.held)
 flushed_round w c = pick (is_hard c.cause)
   where
-    written : (v : Wrote) → ((wrote v c).taken ≡ c.taken) × ((wrote v c).dispatched ≡ c.dispatched) × ((wrote v c).held ≡ c.held)
-    written (WroteBytes k) = (refl, refl, refl)
-    written WriteFailed = (refl, refl, refl)
+    written : (v : LinkWrite) → ((wrote v c).taken ≡ c.taken) × ((wrote v c).dispatched ≡ c.dispatched) × ((wrote v c).held ≡ c.held)
+    written (writing.Took k) = (refl, refl, refl)
+    written writing.NotYet = (refl, refl, refl)
+    written writing.Failed = (refl, refl, refl)
 
     some : (us : List ℕ) → ((flushed_some w us c).taken ≡ c.taken) × ((flushed_some w us c).dispatched ≡ c.dispatched) × ((flushed_some w us c).held ≡ c.held)
     some [] = (refl, refl, refl)
@@ -178,34 +189,34 @@ tidied_less a c j = (let f : holds_at j (flushed a.write c) ≡ holds_at j c = a
     pick true = drop_less j (flushed a.write c).held
     pick false = omega arith
 
-fits_less : (t : Terms) (k : ℕ) (c b : Conn) (cuts : Bool) (d : Conn) (o : Does) → ((j : ℕ) → holds_at j b ≤ holds_at j c) → FitsClaim t k b cuts d o → FitsClaim t k c cuts d o
-fits_less t k c b cuts d (Pushes w e) h f = (f.0, λ j. (let x : at_worker j w e ≤ holds_at j b + turns t k cuts j = f.1 j in let y : holds_at j b ≤ holds_at j c = h j in omega arith))
+fits_less : (t : Terms) (k : ℕ) (c b : Conn) (cuts : Bool) (d : Conn) (o : Does) → ((j : ℕ) → holds_at j b ≤ holds_at j c) → Fits t k b cuts d o → Fits t k c cuts d o
+fits_less t k c b cuts d (Pushes w e) h f = (f.0, λ one j. (let x : at_worker j w e ≤ holds_at j b + turns t k cuts j = f.1 one j in let y : holds_at j b ≤ holds_at j c = h j in omega arith))
 fits_less t k c b cuts d Moves h f = λ j. (let x : holds_at j d ≤ holds_at j b = f j in let y : holds_at j b ≤ holds_at j c = h j in omega arith)
 fits_less t k c b cuts d Stays h f = λ j. (let x : holds_at j d ≤ holds_at j b = f j in let y : holds_at j b ≤ holds_at j c = h j in omega arith)
 fits_less t k c b cuts d (Leaves e) h f = f
 
-pub serve_round : (t : Terms) (fault : List (List ℕ) → Fault) (a : Answers) (k : ℕ) (c : Conn) → t.mode ≡ 1 → RoundServed t k c (serve t fault a k c)
-serve_round t fault a k c one =
-    (let v : RoundServed t k (tidied a c) (serve t fault a k c) = held_round t fault a k (tidied a c).held (tidied a c) one refl in
+pub serve_round : (t : Terms) (a : Answers) (k : ℕ) (c : Conn) → RoundServed t k c (serve t a k c)
+serve_round t a k c =
+    (let v : RoundServed t k (tidied a c) (serve t a k c) = held_round t a k (tidied a c).held (tidied a c) refl in
     let f = flushed_round a.write c in
     record {
-      taken = v.taken ∙ ap (λ (n : ℕ). n + one_if (serve t fault a k c).cuts) f.0;
+      taken = v.taken ∙ ap (λ (n : ℕ). n + one_if (serve t a k c).cuts) f.0;
       sent = v.sent ∙ f.1;
-      fits = fits_less t k c (tidied a c) (serve t fault a k c).cuts (serve t fault a k c).conn (serve t fault a k c).does (tidied_less a c) v.fits;
+      fits = fits_less t k c (tidied a c) (serve t a k c).cuts (serve t a k c).conn (serve t a k c).does (tidied_less a c) v.fits;
     })
 
 -- at an end without a packet dropped each worker has its turns
-pub round_whole : (t : Terms) (pushed : Mail) (ls : List LinkRecord) (k : ℕ) → 0 < t.worker_num → Each (ToWorker t) pushed → Round t pushed [] ls k → sum_of (cut_of t) ls ≡ total ls → (j : ℕ) → j < t.worker_num → packets_at j pushed ≡ rounds t.worker_num (total ls) j
-round_whole t pushed ls k some to r whole j lt =
+pub round_whole : (t : Terms) (pushed : Mail) (ls : List LinkRecord) (k : ℕ) → t.mode ≡ 1 → 0 < t.worker_num → Each (ToWorker t) pushed → Round t pushed [] ls k → sum_of (cut_of t) ls ≡ total ls → (j : ℕ) → j < t.worker_num → packets_at j pushed ≡ rounds t.worker_num (total ls) j
+round_whole t pushed ls k one some to r whole j lt =
     (let w : ℕ = t.worker_num in
     let all : length (collect packet_msg (bare pushed)) ≡ total ls = (let m : length (collect packet_msg (bare pushed)) ≡ 0 + total ls = r.sent in omega arith) in
     let a : k ≤ total ls = (let m : k ≤ 0 + sum_of (cut_of t) ls = r.most in omega arith) in
     let least : length (collect packet_msg (bare pushed)) ≤ sum_below (count_of packet_msg pushed) w = counts_least packet_msg t pushed (to_all pushed to) in
-    let fewer : sum_below (count_of packet_msg pushed) w ≤ sum_below (λ i. rounds w k i) w = sums (count_of packet_msg pushed) (λ i. rounds w k i) w (λ i. (let s : packets_at i pushed + 0 ≤ rounds w k i = r.spread i in omega arith)) in
+    let fewer : sum_below (count_of packet_msg pushed) w ≤ sum_below (λ i. rounds w k i) w = sums (count_of packet_msg pushed) (λ i. rounds w k i) w (λ i. (let s : packets_at i pushed + 0 ≤ rounds w k i = r.spread one i in omega arith)) in
     let b : sum_below (λ i. rounds w k i) w ≡ k = rounds_sum w k some in
     let same : k ≡ total ls = omega arith in
-    let up : rounds w k j ≤ packets_at j pushed = sum_each (λ i. rounds w k i) (count_of packet_msg pushed) w (λ i h. (let s : packets_at i pushed + 0 ≤ rounds w k i = r.spread i in omega arith)) (omega arith) j lt in
-    let down : packets_at j pushed ≤ rounds w k j = (let s : packets_at j pushed + 0 ≤ rounds w k j = r.spread j in omega arith) in
+    let up : rounds w k j ≤ packets_at j pushed = sum_each (λ i. rounds w k i) (count_of packet_msg pushed) w (λ i h. (let s : packets_at i pushed + 0 ≤ rounds w k i = r.spread one i in omega arith)) (omega arith) j lt in
+    let down : packets_at j pushed ≤ rounds w k j = (let s : packets_at j pushed + 0 ≤ rounds w k j = r.spread one j in omega arith) in
     let e : packets_at j pushed ≡ rounds w k j = omega arith in
     e ∙ ap (λ (n : ℕ). rounds w n j) same)
   where

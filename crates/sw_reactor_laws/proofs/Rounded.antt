@@ -1,5 +1,8 @@
 -- Mode 1, all runs: no worker has more packets than its turns, and with no packet dropped each has its turns.
-use Rattle.std.proofs.Common.{◌≡◌, ℕ, ◌+◌, ◌<◌, ◌≤◌, ◌==◌, Bool, true, false, nat_lt, if◌then◌else◌, List, [], ◌∷◌, ◌++◌, length, refl, ap, ◌∙◌, sym, subst, append-nil, append_assoc, arith, Some, inl, inr}
+use Rattle.std.proofs.Common.{◌≡◌, ℕ, ◌+◌, ◌<◌, ◌≤◌, ◌==◌, Bool, true, false, nat_lt, if◌then◌else◌, List, [], ◌∷◌, ◌++◌, length, refl, ap, ◌∙◌, sym, subst, append-nil, append_assoc, arith, Some, inl, inr, map}
+use Rattle.sw_conn.specs.Causes.{is_hard}
+use Rattle.sw_conn.specs.Conn.{set_soft, set_hard}
+use Rattle.sw_data.specs.declared.messages.Got.{Got}
 use Rattle.sw_lists.specs.Lists.{collect, Each, when}
 use Rattle.sw_lists.proofs.Lists.{collect-append, length_append, each_left}
 use Rattle.sw_step.specs.declared.actor.ActorId.TheVariants.{Worker}
@@ -14,8 +17,8 @@ use Rattle.sw_past.specs.Messages.{Message, FreshMsg, SendMsg, CloseMsg, ResetMs
 use Rattle.sw_past.specs.Past.{Mail, bare, of, with}
 use Rattle.sw_past.specs.Routes.{IsFair}
 use Rattle.sw_past.specs.Views.{packet_msg}
-use Rattle.sw_reactor_laws.specs.Conn.{Conn, Answers, Fault, is_hard, set_soft, set_hard, fresh, sent, takes, stops, noted, holds, at_event, writes, Does, Pushes, Moves, Stays, Leaves, Served, serve, over_link}
-use Rattle.sw_reactor_laws.specs.Reactor.{Reactor, Ask, Take, Push, Nothing, Rest, Finished, Got, all, map, each_conn, settled, settled_msg, settled_push, settled_full, pushed_by, full_by, turned, rest_by, stayed, served_by, counted, ends_by, serves, chosen, started, live_links, kept}
+use Rattle.sw_reactor_laws.specs.Conn.{Conn, Answers, fresh, sent, takes, stops, noted, holds, at_event, writes, Does, Pushes, Moves, Stays, Leaves, Served, serve, over_link}
+use Rattle.sw_reactor_laws.specs.Reactor.{Reactor, Ask, Take, Push, Nothing, Rest, Finished, all, each_conn, settled, settled_msg, settled_push, settled_full, pushed_by, full_by, turned, rest_by, stayed, served_by, counted, ends_by, serves, chosen, started, live_links, kept}
 use Rattle.sw_reactor_laws.specs.Quiet.{QuietOver, QuietLists, Quiet, QuietBy, Grows, ServedBy, ServedRight, session_in, session_over}
 use Rattle.sw_reactor_laws.specs.Modes.{ModeLaws}
 use Rattle.sw_reactor_laws.specs.Runs.{Called, TookOne, FoundNone, PushedOne, CameBack, NoCall, Runs, First, Then}
@@ -25,7 +28,7 @@ use Rattle.sw_reactor_laws.proofs.Lift.{Aim, Ending, perm_front, lists_perm, oth
 use Rattle.sw_reactor_laws.proofs.Serve.{serve_right}
 use Rattle.sw_reactor_laws.proofs.Law.{call_quiet, call_fair, runs_quiet, runs_straight}
 use Rattle.sw_reactor_laws.proofs.Turn.{started_quiet}
-use Rattle.sw_reactor_laws.proofs.Round.{rounds_more, turns, one_if, FitsClaim, RoundServed, serve_round, round_whole}
+use Rattle.sw_reactor_laws.proofs.Round.{rounds_more, turns, one_if, Fits, RoundServed, serve_round, round_whole}
 
 -- sums
 sum_append : (f : Conn → ℕ) (xs ys : List Conn) → sum_of f (xs ++ ys) ≡ sum_of f xs + sum_of f ys
@@ -77,7 +80,7 @@ takes_alike t starved NoMore c = record { held = refl; taken = refl; sent = refl
 map_round : (t : Terms) (pushed : Mail) (cs : List Conn) (ls : List LinkRecord) (k : ℕ) (g : Conn → Conn) → ((c : Conn) → Alike c (g c)) → Round t pushed cs ls k → Round t pushed (map g cs) ls k
 map_round t pushed cs ls k g h r =
     record {
-      spread = λ j. (let e : sum_of (holds_at j) (map g cs) ≡ sum_of (holds_at j) cs = sum_map (holds_at j) g (λ c. ap (held_at j) (h c).held) cs in let s : packets_at j pushed + sum_of (holds_at j) cs ≤ rounds t.worker_num k j = r.spread j in omega arith);
+      spread = λ one j. (let e : sum_of (holds_at j) (map g cs) ≡ sum_of (holds_at j) cs = sum_map (holds_at j) g (λ c. ap (held_at j) (h c).held) cs in let s : packets_at j pushed + sum_of (holds_at j) cs ≤ rounds t.worker_num k j = r.spread one j in omega arith);
       most = (let e : sum_of taken_of (map g cs) ≡ sum_of taken_of cs = sum_map taken_of g (λ c. (h c).taken) cs in let s : k ≤ sum_of taken_of cs + sum_of (cut_of t) ls = r.most in omega arith);
       sent = r.sent ∙ ap (λ (n : ℕ). n + total ls) (sym (sum_map sent_of g (λ c. (h c).sent) cs));
     }
@@ -86,7 +89,7 @@ map_round t pushed cs ls k g h r =
 fresh_round : (t : Terms) (pushed : Mail) (cs : List Conn) (ls : List LinkRecord) (k : ℕ) (starved : Bool) (ip s : ℕ) → Round t pushed cs ls k → Round t pushed (cs ++ fresh starved ip s ∷ []) ls k
 fresh_round t pushed cs ls k starved ip s r =
     record {
-      spread = λ j. (let e : sum_of (holds_at j) (cs ++ fresh starved ip s ∷ []) ≡ sum_of (holds_at j) cs + (0 + 0) = sum_append (holds_at j) cs (fresh starved ip s ∷ []) in let q : packets_at j pushed + sum_of (holds_at j) cs ≤ rounds t.worker_num k j = r.spread j in omega arith);
+      spread = λ one j. (let e : sum_of (holds_at j) (cs ++ fresh starved ip s ∷ []) ≡ sum_of (holds_at j) cs + (0 + 0) = sum_append (holds_at j) cs (fresh starved ip s ∷ []) in let q : packets_at j pushed + sum_of (holds_at j) cs ≤ rounds t.worker_num k j = r.spread one j in omega arith);
       most = (let e : sum_of taken_of (cs ++ fresh starved ip s ∷ []) ≡ sum_of taken_of cs + (0 + 0) = sum_append taken_of cs (fresh starved ip s ∷ []) in let q : k ≤ sum_of taken_of cs + sum_of (cut_of t) ls = r.most in omega arith);
       sent = (let e : sum_of sent_of (cs ++ fresh starved ip s ∷ []) ≡ sum_of sent_of cs + (0 + 0) = sum_append sent_of cs (fresh starved ip s ∷ []) in let q : length (collect packet_msg (bare pushed)) ≡ sum_of sent_of cs + total ls = r.sent in omega arith);
     }
@@ -156,16 +159,16 @@ noted_round t (Finish id b) d = (refl, refl, (let q : d.dispatched ≡ d.dispatc
 noted_round t (Task w id b) d = (refl, refl, (let q : d.dispatched ≡ d.dispatched + 0 = omega arith in q))
 
 -- one is served: g is what its connection comes to, n the packets that are pushed of it
-one_round : (t : Terms) (pushed later : Mail) (before cs : List Conn) (c g : Conn) (ls : List LinkRecord) (k n : ℕ) (cuts : Bool) (at : ℕ → ℕ) → Round t pushed (before ++ c ∷ cs) ls k → ((j : ℕ) → packets_at j later ≡ packets_at j pushed + at j) → length (collect packet_msg (bare later)) ≡ length (collect packet_msg (bare pushed)) + n → ((j : ℕ) → at j + holds_at j g ≤ holds_at j c + turns t k cuts j) → g.taken ≡ c.taken + one_if cuts → g.dispatched ≡ c.dispatched + n → Round t later (before ++ g ∷ cs) ls (counted cuts k)
+one_round : (t : Terms) (pushed later : Mail) (before cs : List Conn) (c g : Conn) (ls : List LinkRecord) (k n : ℕ) (cuts : Bool) (at : ℕ → ℕ) → Round t pushed (before ++ c ∷ cs) ls k → ((j : ℕ) → packets_at j later ≡ packets_at j pushed + at j) → length (collect packet_msg (bare later)) ≡ length (collect packet_msg (bare pushed)) + n → (t.mode ≡ 1 → (j : ℕ) → at j + holds_at j g ≤ holds_at j c + turns t k cuts j) → g.taken ≡ c.taken + one_if cuts → g.dispatched ≡ c.dispatched + n → Round t later (before ++ g ∷ cs) ls (counted cuts k)
 one_round t pushed later before cs c g ls k n cuts at r p q h e f =
     record {
-      spread = λ j.
+      spread = λ one j.
         (let a : sum_of (holds_at j) (before ++ c ∷ cs) ≡ holds_at j c + sum_of (holds_at j) (before ++ cs) = sum_mid (holds_at j) before c cs in
         let b : sum_of (holds_at j) (before ++ g ∷ cs) ≡ holds_at j g + sum_of (holds_at j) (before ++ cs) = sum_mid (holds_at j) before g cs in
-        let s : packets_at j pushed + sum_of (holds_at j) (before ++ c ∷ cs) ≤ rounds t.worker_num k j = r.spread j in
+        let s : packets_at j pushed + sum_of (holds_at j) (before ++ c ∷ cs) ≤ rounds t.worker_num k j = r.spread one j in
         let u : rounds t.worker_num (counted cuts k) j ≡ rounds t.worker_num k j + turns t k cuts j = rounds_counted t k cuts j in
         let v : packets_at j later ≡ packets_at j pushed + at j = p j in
-        let w : at j + holds_at j g ≤ holds_at j c + turns t k cuts j = h j in
+        let w : at j + holds_at j g ≤ holds_at j c + turns t k cuts j = h one j in
         omega arith);
       most =
         (let a : sum_of taken_of (before ++ c ∷ cs) ≡ c.taken + sum_of taken_of (before ++ cs) = sum_mid taken_of before c cs in
@@ -184,9 +187,9 @@ one_round t pushed later before cs c g ls k n cuts at r p q h e f =
 gone_round : (t : Terms) (pushed : Mail) (before cs : List Conn) (c d : Conn) (ls : List LinkRecord) (k u : ℕ) (cuts : Bool) (e : Cause) → Round t pushed (before ++ c ∷ cs) ls k → d.taken ≡ c.taken + one_if cuts → d.dispatched ≡ c.dispatched → d.taken ≤ length (packets_cut t d.pieces) → Round t pushed (before ++ cs) (ls ++ over_link t d u e ∷ []) (counted cuts k)
 gone_round t pushed before cs c d ls k u cuts e r p q few =
     record {
-      spread = λ j.
+      spread = λ one j.
         (let a : sum_of (holds_at j) (before ++ c ∷ cs) ≡ holds_at j c + sum_of (holds_at j) (before ++ cs) = sum_mid (holds_at j) before c cs in
-        let s : packets_at j pushed + sum_of (holds_at j) (before ++ c ∷ cs) ≤ rounds t.worker_num k j = r.spread j in
+        let s : packets_at j pushed + sum_of (holds_at j) (before ++ c ∷ cs) ≤ rounds t.worker_num k j = r.spread one j in
         let v : rounds t.worker_num (counted cuts k) j ≡ rounds t.worker_num k j + turns t k cuts j = rounds_counted t k cuts j in
         omega arith);
       most =
@@ -226,7 +229,7 @@ behind_push t pushed f done (c ∷ cs) r ask q = subst (λ (ds : List Conn). Rou
 zero_more : (j : ℕ) (pushed : Mail) → packets_at j pushed ≡ packets_at j pushed + 0
 zero_more j pushed = omega arith
 
-served_round : (t : Terms) (n : ℕ) (took pushed : Mail) (a : Answers) (moved cuts : Bool) (c d : Conn) (cs : List Conn) (o : Does) (r : Reactor) (k : ℕ) → r.round ≡ counted cuts k → Each (λ (b : Conn). ¬ (b.session ≡ d.session)) (r.done ++ cs) → ServedBy t n took pushed d o → Round t pushed (r.done ++ c ∷ cs) r.over k → d.taken ≡ c.taken + one_if cuts → d.dispatched ≡ c.dispatched → FitsClaim t k c cuts d o → RoundAfter t pushed (served_by t a moved cs d o r)
+served_round : (t : Terms) (n : ℕ) (took pushed : Mail) (a : Answers) (moved cuts : Bool) (c d : Conn) (cs : List Conn) (o : Does) (r : Reactor) (k : ℕ) → r.round ≡ counted cuts k → Each (λ (b : Conn). ¬ (b.session ≡ d.session)) (r.done ++ cs) → ServedBy t n took pushed d o → Round t pushed (r.done ++ c ∷ cs) r.over k → d.taken ≡ c.taken + one_if cuts → d.dispatched ≡ c.dispatched → Fits t k c cuts d o → RoundAfter t pushed (served_by t a moved cs d o r)
 served_round t n took pushed a moved cuts c d cs (Pushes w e) r k eq others s q p g f =
     (behind_push t (pushed ++ (Worker w, EventMsg e) ∷ []) (at_event (noted t e) e) (r.done ++ d ∷ []) cs r (Push w (EventMsg e)) (placed (noted t e) (pushed ++ (Worker w, EventMsg e) ∷ []) noted_now),
      behind_push t pushed (at_event (holds w e) e) (r.done ++ d ∷ []) cs r (Push w (EventMsg e)) (placed (holds w e) pushed held_now))
@@ -240,25 +243,25 @@ served_round t n took pushed a moved cuts c d cs (Pushes w e) r k eq others s q 
     noted_now =
         (let m = noted_round t e d in
         one_round t pushed (pushed ++ (Worker w, EventMsg e) ∷ []) r.done cs c (noted t e d) r.over k (is_packet e) cuts (λ j. at_worker j w e) q (λ j. at_more pushed j w (EventMsg e) (is_packet e) (length_packet e)) (all_more pushed w (EventMsg e) ∙ ap (λ (x : ℕ). length (collect packet_msg (bare pushed)) + x) (length_packet e))
-          (λ j. (let z : holds_at j (noted t e d) ≡ 0 = ap (held_at j) (m.0 ∙ f.0) in let y : at_worker j w e ≤ holds_at j c + turns t k cuts j = f.1 j in omega arith))
+          (λ one j. (let z : holds_at j (noted t e d) ≡ 0 = ap (held_at j) (m.0 ∙ f.0) in let y : at_worker j w e ≤ holds_at j c + turns t k cuts j = f.1 one j in omega arith))
           (m.1 ∙ p) (m.2 ∙ ap (λ (x : ℕ). x + is_packet e) g))
 
     held_now : Round t pushed (r.done ++ holds w e d ∷ cs) r.over (counted cuts k)
     held_now =
         one_round t pushed pushed r.done cs c (holds w e d) r.over k 0 cuts (λ j. 0) q (λ j. zero_more j pushed) (let z : length (collect packet_msg (bare pushed)) ≡ length (collect packet_msg (bare pushed)) + 0 = omega arith in z)
-          (λ j. (let y : at_worker j w e ≤ holds_at j c + turns t k cuts j = f.1 j in omega arith)) p (g ∙ (let z : c.dispatched ≡ c.dispatched + 0 = omega arith in z))
+          (λ one j. (let y : at_worker j w e ≤ holds_at j c + turns t k cuts j = f.1 one j in omega arith)) p (g ∙ (let z : c.dispatched ≡ c.dispatched + 0 = omega arith in z))
 served_round t n took pushed a moved cuts c d cs Moves r k eq others s q p g f = behind_serve t pushed (r.done ++ d ∷ []) cs r (quiet_round t pushed cuts c d r.done cs r.over k r.round eq q p g f)
   where
     quiet_round : (t : Terms) (pushed : Mail) (cuts : Bool) (c d : Conn) (done cs : List Conn) (ls : List LinkRecord) (k m : ℕ) → m ≡ counted cuts k → Round t pushed (done ++ c ∷ cs) ls k → d.taken ≡ c.taken + one_if cuts → d.dispatched ≡ c.dispatched → ((j : ℕ) → holds_at j d ≤ holds_at j c) → Round t pushed ((done ++ d ∷ []) ++ cs) ls m
     quiet_round t pushed cuts c d done cs ls k m eq q p g f =
         subst (λ (ds : List Conn). Round t pushed ds ls m) (sym (append_assoc done (d ∷ []) cs)) (subst (Round t pushed (done ++ d ∷ cs) ls) (sym eq)
-          (one_round t pushed pushed done cs c d ls k 0 cuts (λ j. 0) q (λ j. zero_more j pushed) (let z : length (collect packet_msg (bare pushed)) ≡ length (collect packet_msg (bare pushed)) + 0 = omega arith in z) (λ j. (let y : holds_at j d ≤ holds_at j c = f j in omega arith)) p (g ∙ (let z : c.dispatched ≡ c.dispatched + 0 = omega arith in z))))
+          (one_round t pushed pushed done cs c d ls k 0 cuts (λ j. 0) q (λ j. zero_more j pushed) (let z : length (collect packet_msg (bare pushed)) ≡ length (collect packet_msg (bare pushed)) + 0 = omega arith in z) (λ one j. (let y : holds_at j d ≤ holds_at j c = f j in omega arith)) p (g ∙ (let z : c.dispatched ≡ c.dispatched + 0 = omega arith in z))))
 served_round t n took pushed a moved cuts c d cs Stays r k eq others s q p g f = pick moved
   where
     here : RoundOf t pushed (turned (r.done ++ d ∷ []) cs r)
     here =
         behind_serve t pushed (r.done ++ d ∷ []) cs r (subst (λ (ds : List Conn). Round t pushed ds r.over r.round) (sym (append_assoc r.done (d ∷ []) cs)) (subst (Round t pushed (r.done ++ d ∷ cs) r.over) (sym eq)
-          (one_round t pushed pushed r.done cs c d r.over k 0 cuts (λ j. 0) q (λ j. zero_more j pushed) (let z : length (collect packet_msg (bare pushed)) ≡ length (collect packet_msg (bare pushed)) + 0 = omega arith in z) (λ j. (let y : holds_at j d ≤ holds_at j c = f j in omega arith)) p (g ∙ (let z : c.dispatched ≡ c.dispatched + 0 = omega arith in z)))))
+          (one_round t pushed pushed r.done cs c d r.over k 0 cuts (λ j. 0) q (λ j. zero_more j pushed) (let z : length (collect packet_msg (bare pushed)) ≡ length (collect packet_msg (bare pushed)) + 0 = omega arith in z) (λ one j. (let y : holds_at j d ≤ holds_at j c = f j in omega arith)) p (g ∙ (let z : c.dispatched ≡ c.dispatched + 0 = omega arith in z)))))
 
     rests : (m : ℕ) (b : Bool) → RoundAfter t pushed (record (turned (r.done ++ d ∷ []) cs r) { still = m; last = rest_by b })
     rests m true = here
@@ -280,7 +283,7 @@ ends_round t n pushed r q = pick (nat_lt 0 r.ends) (nat_lt r.given t.worker_num)
     given : RoundOf t (pushed ++ (Worker r.given, NoMore) ∷ []) r
     given =
         record {
-          spread = λ j. (let e : packets_at j (pushed ++ (Worker r.given, NoMore) ∷ []) ≡ packets_at j pushed + (if r.given == j then 0 else 0) = at_more pushed j r.given NoMore 0 refl in let z : ◌≡◌ {A = ℕ} (if r.given == j then 0 else 0) 0 = both (r.given == j) in let s : packets_at j pushed + sum_of (holds_at j) (all r) ≤ rounds t.worker_num r.round j = q.spread j in omega arith);
+          spread = λ one j. (let e : packets_at j (pushed ++ (Worker r.given, NoMore) ∷ []) ≡ packets_at j pushed + (if r.given == j then 0 else 0) = at_more pushed j r.given NoMore 0 refl in let z : ◌≡◌ {A = ℕ} (if r.given == j then 0 else 0) 0 = both (r.given == j) in let s : packets_at j pushed + sum_of (holds_at j) (all r) ≤ rounds t.worker_num r.round j = q.spread one j in omega arith);
           most = q.most;
           sent = (let e : length (collect packet_msg (bare (pushed ++ (Worker r.given, NoMore) ∷ []))) ≡ length (collect packet_msg (bare pushed)) + 0 = all_more pushed r.given NoMore in let s : length (collect packet_msg (bare pushed)) ≡ sum_of sent_of (all r) + total r.over = q.sent in omega arith);
         }
@@ -298,14 +301,14 @@ ends_round t n pushed r q = pick (nat_lt 0 r.ends) (nat_lt r.given t.worker_num)
     pick true false false = same Rest
     pick false y z = same Rest
 
-serves_round : (t : Terms) (a : Aim) (w : Ending) (fault : List (List ℕ) → Fault) (ans : Answers) → t.mode ≡ 1 → 0 < t.worker_num → Grows t → ((j : ℕ) → ans.idle ≡ Some j → j < t.worker_num) → (n : ℕ) (took pushed : Mail) (r : Reactor) → Quiet t a w n took pushed r → RoundOf t pushed r → (next : List Conn) → r.next ≡ next → RoundAfter t pushed (serves t fault ans next r)
-serves_round t a w fault ans one some grows idle n took pushed r q x [] e = ends_round t n pushed r x
-serves_round t a w fault ans one some grows idle n took pushed r q x (c ∷ cs) e =
-    let v : Served = serve t fault ans r.round c in
+serves_round : (t : Terms) (a : Aim) (w : Ending) (ans : Answers) → 0 < t.worker_num → Grows t → ((j : ℕ) → ans.idle ≡ Some j → j < t.worker_num) → (n : ℕ) (took pushed : Mail) (r : Reactor) → Quiet t a w n took pushed r → RoundOf t pushed r → (next : List Conn) → r.next ≡ next → RoundAfter t pushed (serves t ans next r)
+serves_round t a w ans some grows idle n took pushed r q x [] e = ends_round t n pushed r x
+serves_round t a w ans some grows idle n took pushed r q x (c ∷ cs) e =
+    let v : Served = serve t ans r.round c in
     let lists : QuietLists t a w n took pushed (r.done ++ c ∷ cs) r.over = subst (λ (ds : List Conn). QuietLists t a w n took pushed (r.done ++ ds) r.over) e q in
     let front : QuietLists t a w n took pushed (c ∷ (r.done ++ cs)) r.over = lists_perm t a w n took pushed (r.done ++ c ∷ cs) (c ∷ (r.done ++ cs)) r.over (perm_front c r.done cs) lists in
-    let right : ServedRight t n took pushed c.session v = serve_right t fault n took pushed ans r.round c some idle grows front.conns.0 in
-    let s : RoundServed t r.round c v = serve_round t fault ans r.round c one in
+    let right : ServedRight t n took pushed c.session v = serve_right t n took pushed ans r.round c some idle grows front.conns.0 in
+    let s : RoundServed t r.round c v = serve_round t ans r.round c in
     let others : Each (λ (b : Conn). ¬ (b.session ≡ v.conn.session)) (r.done ++ cs) = others_not v.conn.session (r.done ++ cs) (subst (λ (z : ℕ). Each (λ k. ¬ (z ≡ k)) (collect session_in (r.done ++ cs))) (sym right.session) (each_left (λ k. ¬ (c.session ≡ k)) (collect session_in (r.done ++ cs)) (collect session_over r.over) front.distinct.0)) in
     served_round t n took pushed ans (writes ans.write c) v.cuts c v.conn cs v.does (record r { round = counted v.cuts r.round }) r.round refl others right.does (subst (λ (ds : List Conn). Round t pushed (r.done ++ ds) r.over r.round) e x) s.taken s.sent s.fits
 
@@ -313,15 +316,15 @@ takes_round : (t : Terms) (pushed : Mail) (r : Reactor) → RoundOf t pushed r �
 takes_round t pushed r x true = (let y : RoundOf t pushed (each_conn stops r) = each_round t pushed stops r (λ c. record { held = refl; taken = refl; sent = refl }) x in record { spread = y.spread; most = y.most; sent = y.sent })
 takes_round t pushed r x false = record { spread = x.spread; most = x.most; sent = x.sent }
 
-chosen_round : (t : Terms) (a : Aim) (w : Ending) (fault : List (List ℕ) → Fault) (ans : Answers) → t.mode ≡ 1 → 0 < t.worker_num → Grows t → ((j : ℕ) → ans.idle ≡ Some j → j < t.worker_num) → (n : ℕ) (took pushed : Mail) (r : Reactor) → Quiet t a w n took pushed r → RoundOf t pushed r → (ask : Ask) → RoundAfter t pushed (chosen t fault ans ask r)
-chosen_round t a w fault ans one some grows idle n took pushed r q x Take = serves_round t a w fault ans one some grows idle n took pushed r q x r.next refl
-chosen_round t a w fault ans one some grows idle n took pushed r q x (Push v m) = takes_round t pushed r x ans.stop
-chosen_round t a w fault ans one some grows idle n took pushed r q x Nothing = takes_round t pushed r x ans.stop
-chosen_round t a w fault ans one some grows idle n took pushed r q x Rest = takes_round t pushed r x ans.stop
-chosen_round t a w fault ans one some grows idle n took pushed r q x Finished = takes_round t pushed r x ans.stop
+chosen_round : (t : Terms) (a : Aim) (w : Ending) (ans : Answers) → 0 < t.worker_num → Grows t → ((j : ℕ) → ans.idle ≡ Some j → j < t.worker_num) → (n : ℕ) (took pushed : Mail) (r : Reactor) → Quiet t a w n took pushed r → RoundOf t pushed r → (ask : Ask) → RoundAfter t pushed (chosen t ans ask r)
+chosen_round t a w ans some grows idle n took pushed r q x Take = serves_round t a w ans some grows idle n took pushed r q x r.next refl
+chosen_round t a w ans some grows idle n took pushed r q x (Push v m) = takes_round t pushed r x ans.stop
+chosen_round t a w ans some grows idle n took pushed r q x Nothing = takes_round t pushed r x ans.stop
+chosen_round t a w ans some grows idle n took pushed r q x Rest = takes_round t pushed r x ans.stop
+chosen_round t a w ans some grows idle n took pushed r q x Finished = takes_round t pushed r x ans.stop
 
 -- a pipe call
-call_round : (t : Terms) (r : Reactor) (took pushed later more : Mail) (got : Got) → Called r took pushed later more got → RoundAfter t pushed r → (starved : Bool) → RoundOf t more (settled t starved got r)
+call_round : (t : Terms) (r : Reactor) (took pushed later more : Mail) (got : Got Message) → Called r took pushed later more got → RoundAfter t pushed r → (starved : Bool) → RoundOf t more (settled t starved got r)
 call_round t r took pushed _ _ _ (TookOne e from m) x starved = (let y : RoundOf t pushed r = subst (RoundBy t pushed r) e x in msg_round t pushed starved m (record r { empty = false }) (record { spread = y.spread; most = y.most; sent = y.sent }))
 call_round t r took pushed _ _ _ (FoundNone e) x starved = (let y : RoundOf t pushed r = subst (RoundBy t pushed r) e x in record { spread = y.spread; most = y.most; sent = y.sent })
 call_round t r took pushed _ _ _ (PushedOne w m e) x starved = subst (λ (k : Ask). RoundOf t (pushed ++ (Worker w, m) ∷ []) (pushed_by t k r)) (sym e) (subst (RoundBy t pushed r) e x).0
@@ -330,19 +333,19 @@ call_round t r took pushed _ _ _ (NoCall (inl e)) x starved = subst (RoundBy t p
 call_round t r took pushed _ _ _ (NoCall (inr e)) x starved = subst (RoundBy t pushed r) e x
 
 -- all runs
-pub runs_round : (t : Terms) (a : Aim) (w : Ending) → ModeLaws t a w → (fault : List (List ℕ) → Fault) (word : ℕ → ℕ) → t.mode ≡ 1 → 0 < t.worker_num → Grows t → (n : ℕ) → n < t.reactor_num → (took pushed : Mail) (r : Reactor) → Runs t fault word took pushed r → IsFair t n took → RoundAfter t pushed r
-runs_round t a w m fault word one some grows n small _ _ _ (First starved ans faith) f = chosen_round t a w fault ans one some grows faith.idle n [] [] started (started_quiet t a w n) (record { spread = λ j. omega arith; most = omega arith; sent = refl }) started.last
-runs_round t a w m fault word one some grows n small _ _ _ (Then {took = took} {pushed = pushed} {r = r} before later more got call starved ans faith) f =
+pub runs_round : (t : Terms) (a : Aim) (w : Ending) → ModeLaws t a w → (word : ℕ → ℕ) → 0 < t.worker_num → Grows t → (n : ℕ) → n < t.reactor_num → (took pushed : Mail) (r : Reactor) → Runs t word took pushed r → IsFair t n took → RoundAfter t pushed r
+runs_round t a w m word some grows n small _ _ _ (First starved ans faith) f = chosen_round t a w ans some grows faith.idle n [] [] started (started_quiet t a w n) (record { spread = λ one j. omega arith; most = omega arith; sent = refl }) started.last
+runs_round t a w m word some grows n small _ _ _ (Then {took = took} {pushed = pushed} {r = r} before later more got call starved ans faith) f =
     let old : IsFair t n took = call_fair t n r took pushed later more got call f in
-    chosen_round t a w fault ans one some grows faith.idle n later more (settled t starved got r)
-      (call_quiet t a w n r took pushed later more got call f (runs_quiet t a w m fault word some grows n small took pushed r before old) starved)
-      (call_round t r took pushed later more got call (runs_round t a w m fault word one some grows n small took pushed r before old) starved) r.last
+    chosen_round t a w ans some grows faith.idle n later more (settled t starved got r)
+      (call_quiet t a w n r took pushed later more got call f (runs_quiet t a w m word some grows n small took pushed r before old) starved)
+      (call_round t r took pushed later more got call (runs_round t a w m word some grows n small took pushed r before old) starved) r.last
 
 -- a finished reactor without a dropped packet: the packets went round
-pub finished_round : (t : Terms) (a : Aim) (w : Ending) → ModeLaws t a w → (fault : List (List ℕ) → Fault) (word : ℕ → ℕ) → t.mode ≡ 1 → 0 < t.worker_num → Grows t → (n : ℕ) → n < t.reactor_num → (took pushed : Mail) (r : Reactor) → Runs t fault word took pushed r → IsFair t n took → r.last ≡ Finished → all r ≡ [] → sum_of (cut_of t) r.over ≡ total r.over → (j : ℕ) → j < t.worker_num → packets_at j pushed ≡ rounds t.worker_num (total r.over) j
-finished_round t a w m fault word one some grows n small took pushed r runs f e none whole j lt =
-    let x : RoundOf t pushed r = subst (RoundBy t pushed r) e (runs_round t a w m fault word one some grows n small took pushed r runs f) in
-    round_whole t pushed r.over r.round some (runs_straight t fault word some took pushed r runs).pushed_is (subst (λ (cs : List Conn). Round t pushed cs r.over r.round) none x) whole j lt
+pub finished_round : (t : Terms) (a : Aim) (w : Ending) → ModeLaws t a w → (word : ℕ → ℕ) → t.mode ≡ 1 → 0 < t.worker_num → Grows t → (n : ℕ) → n < t.reactor_num → (took pushed : Mail) (r : Reactor) → Runs t word took pushed r → IsFair t n took → r.last ≡ Finished → all r ≡ [] → sum_of (cut_of t) r.over ≡ total r.over → (j : ℕ) → j < t.worker_num → packets_at j pushed ≡ rounds t.worker_num (total r.over) j
+finished_round t a w m word one some grows n small took pushed r runs f e none whole j lt =
+    let x : RoundOf t pushed r = subst (RoundBy t pushed r) e (runs_round t a w m word some grows n small took pushed r runs f) in
+    round_whole t pushed r.over r.round one some (runs_straight t word some took pushed r runs).pushed_is (subst (λ (cs : List Conn). Round t pushed cs r.over r.round) none x) whole j lt
 
 -- links that ended with all cut: what was pushed of them is what was cut
 abbrev pub EndsAllCut : LinkRecord → Type 0
@@ -355,9 +358,9 @@ whole_sum t a w took pushed (l ∷ ls) q h =
     let r : sum_of (cut_of t) ls ≡ total ls = whole_sum t a w took pushed ls q.1 h.1 in
     omega arith)
 
-pub round_law : (t : Terms) (a : Aim) (w : Ending) → ModeLaws t a w → (fault : List (List ℕ) → Fault) (word : ℕ → ℕ) → t.mode ≡ 1 → 0 < t.worker_num → Grows t → (n : ℕ) → n < t.reactor_num → (took pushed : Mail) (r : Reactor) → Runs t fault word took pushed r → IsFair t n took → r.last ≡ Finished → all r ≡ [] → Each EndsAllCut (kept t r) → (j : ℕ) → j < t.worker_num → packets_at j pushed ≡ rounds t.worker_num (total (kept t r)) j
-round_law t a w m fault word one some grows n small took pushed r runs f e none cut j lt =
-    let q : Quiet t a w n took pushed r = subst (QuietBy t a w n took pushed r) e (runs_quiet t a w m fault word some grows n small took pushed r runs f) in
+pub round_law : (t : Terms) (a : Aim) (w : Ending) → ModeLaws t a w → (word : ℕ → ℕ) → t.mode ≡ 1 → 0 < t.worker_num → Grows t → (n : ℕ) → n < t.reactor_num → (took pushed : Mail) (r : Reactor) → Runs t word took pushed r → IsFair t n took → r.last ≡ Finished → all r ≡ [] → Each EndsAllCut (kept t r) → (j : ℕ) → j < t.worker_num → packets_at j pushed ≡ rounds t.worker_num (total (kept t r)) j
+round_law t a w m word one some grows n small took pushed r runs f e none cut j lt =
+    let q : Quiet t a w n took pushed r = subst (QuietBy t a w n took pushed r) e (runs_quiet t a w m word some grows n small took pushed r runs f) in
     let same : kept t r ≡ r.over = ap (λ (cs : List Conn). live_links t cs ++ r.over) none in
-    finished_round t a w m fault word one some grows n small took pushed r runs f e none (whole_sum t a w took pushed r.over q.over (subst (Each EndsAllCut) same cut)) j lt
+    finished_round t a w m word one some grows n small took pushed r runs f e none (whole_sum t a w took pushed r.over q.over (subst (Each EndsAllCut) same cut)) j lt
     ∙ ap (λ (ls : List LinkRecord). rounds t.worker_num (total ls) j) (sym same)

@@ -1,5 +1,8 @@
 -- Modes 1 and 3: all pushes of a connection together are its first packets in order.
 use Rattle.std.proofs.Common.{◌≡◌, ℕ, true, false, List, [], ◌∷◌, ◌++◌, take, refl, ap, ◌∙◌, sym, append-nil, Option}
+use Rattle.sw_conn.specs.declared.conn.Phase.{Phase}
+use Rattle.sw_conn.specs.declared.conn.Phase.TheVariants.{Coming, Open, Closing}
+use Rattle.sw_conn.specs.Modes.{bound}
 use Rattle.sw_lists.specs.Lists.{collect}
 use Rattle.sw_step.specs.declared.actor.ActorId.{ActorId}
 use Rattle.sw_record.specs.Words.{Cause}
@@ -8,7 +11,6 @@ use Rattle.sw_past.specs.Messages.{Message}
 use Rattle.sw_past.specs.Past.{Mail, bare}
 use Rattle.sw_past.specs.Views.{story_in}
 use Rattle.sw_join.specs.Aims.{packets_from, ScatterAim, ScatterEnd}
-use Rattle.sw_reactor_laws.specs.Conn.{Phase, Coming, Open, Closing, bound}
 use Rattle.sw_reactor_laws.specs.Quiet.{told_by, IsPhase}
 use Rattle.sw_reactor_laws.specs.Modes.{ModeLaws}
 use Rattle.sw_reactor_laws.proofs.Flow.{more_of}

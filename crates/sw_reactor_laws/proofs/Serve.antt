@@ -2,6 +2,16 @@
 use Rattle.std.proofs.Common.{◌≡◌, ◌⊎◌, ℕ, ◌+◌, ◌-◌, ◌<◌, ◌≤◌, ◌%◌, ◌^◌, ◌==◌, Bool, true, false, nat_lt, if◌then◌else◌, List, [], ◌∷◌, ◌++◌, length, slice_get, refl, ap, ◌∙◌, sym, subst, append-nil, arith, Option, Some, None, inl, inr, zero, suc}
 use Rattle.std.proofs.lemmas.Bool.Decides.{nat_tests}
 use Rattle.std.proofs.Math.Nat.{mod-lt}
+use Rattle.sw_conn.specs.declared.conn.Phase.{Phase}
+use Rattle.sw_conn.specs.declared.conn.Phase.TheVariants.{Coming, Open, Closing}
+use Rattle.sw_link.specs.declared.link.LinkWrite.{LinkWrite}
+use Rattle.sw_link.specs.Reads.{Read, GotPiece, ReadNotYet, ReadEnd, ReadFailed}
+use Rattle.sw_conn.specs.Modes.{bound}
+use Rattle.sw_conn.specs.Causes.{hard, is_hard, drops}
+use Rattle.sw_conn.specs.Conn.{drop_packet, has_unsent}
+use Rattle.sw_link.specs.declared.link.LinkWrite.TheVariants as writing
+use Rattle.sw_frame.specs.declared.next.Next.{Next}
+use Rattle.sw_frame.specs.declared.next.Next.TheVariants as next
 use Rattle.sw_lists.specs.Lists.{collect}
 use Rattle.sw_lists.proofs.Lists.{eq_same, eq_is, length_append}
 use Rattle.sw_step.specs.declared.actor.ActorId.TheVariants.{Worker}
@@ -12,11 +22,15 @@ use Rattle.sw_record.specs.Order.{target, side}
 use Rattle.sw_past.specs.Messages.{EventMsg}
 use Rattle.sw_past.specs.Past.{Mail, bare}
 use Rattle.sw_past.specs.Views.{due, due_in}
-use Rattle.sw_reactor_laws.specs.Conn.{Conn, Phase, Coming, Open, Closing, Wrote, WroteBytes, WriteFailed, Read, GotPiece, ReadNotYet, ReadEnd, ReadFailed, Answers, Fault, Fine, Long, Bad, bound, hard, is_hard, noted, drop_packet, wrote, flushed_some, flushed, drops, cleared, has_unsent, Pushes, Stays, Leaves, sees, idle_or, place, pushes, plain, NextPacket, NextStuck, behind, next_at, next_of, read_by, cut_by, closes, can_leave, end_by, cause_by, connects, open_by, held_by, tidied, serve}
+use Rattle.sw_reactor_laws.specs.Conn.{cuts_next, starve, Conn, Answers, noted, wrote, flushed_some, flushed, cleared, Pushes, Stays, Leaves, sees, idle_or, place, pushes, plain, read_by, cut_by, closes, can_leave, end_by, cause_by, connects, open_by, held_by, tidied, serve}
 use Rattle.sw_reactor_laws.specs.Quiet.{IsCaused, Flows, Tale, FlowsOf, TaleOf, HeldOf, ReadyOf, HasCause, IsPhase, IsNext, IsHeld, IsSided, QuietConn, IsOf, ServedBy, ServedRight, IsIdle, Grows, dues, side_of}
 use Rattle.sw_reactor_laws.proofs.Flow.{more_of, flow_soft, flow_hard, flow_dues, flow_wrote}
 use Rattle.sw_reactor_laws.proofs.Tale.{tale_push, tale_cause, held_cause, held_drop, tale_piece, tale_taken, tale_sees, next_of_session, own_event}
 use Rattle.sw_reactor_laws.proofs.Settle.{hard_now}
+use Rattle.sw_frame.specs.Cutting.{next_by, next_rest}
+use Rattle.sw_frame.specs.Cut.{cut}
+use Rattle.sw_cut.specs.declared.First.{First}
+use Rattle.sw_cut.specs.declared.First.TheVariants as first
 
 -- as many events that await a Bye
 due_length : (t : Terms) (s : ℕ) (e : Event) → IsOf s e → length (due_in t s (EventMsg e)) ≤ 1
@@ -211,13 +225,13 @@ not_closing t Open cause n i none e = (let k : Open ≡ Closing = e in cc)
 not_closing t Closing cause n i none e = no_cause cause none i.1
 
 -- points 4 to 6
-cut_right : (t : Terms) (fault : List (List ℕ) → Fault) (n : ℕ) (took pushed : Mail) (a : Answers) (k : ℕ) (c : Conn) → 0 < t.worker_num → IsIdle t a → Grows t → QuietConn t n took pushed c → c.held ≡ None → c.cause ≡ None → connects t c.phase ≡ false → ServedRight t n took pushed c.session (cut_by t a k (next_of t fault a.cut_starved c) c)
-cut_right t fault n took pushed a k c some idle grows q free none begun = pick a.cut_starved
+cut_right : (t : Terms) (n : ℕ) (took pushed : Mail) (a : Answers) (k : ℕ) (c : Conn) → 0 < t.worker_num → IsIdle t a → Grows t → QuietConn t n took pushed c → c.held ≡ None → c.cause ≡ None → connects t c.phase ≡ false → ServedRight t n took pushed c.session (cuts_next t a k c)
+cut_right t n took pushed a k c some idle grows q free none begun = at (slice_get (packets_cut t c.pieces) c.taken) refl
   where
     even : c.taken ≡ c.dispatched
     even = (let h : HeldOf t c None = subst (HeldOf t c) free q.held in h none)
 
-    packet : (b : List ℕ) → slice_get (packets_cut t c.pieces) c.taken ≡ Some b → ServedRight t n took pushed c.session (cut_by t a k (NextPacket b) c)
+    packet : (b : List ℕ) → slice_get (packets_cut t c.pieces) c.taken ≡ Some b → ServedRight t n took pushed c.session (cut_by t a k (next.Packet b) c)
     packet b e =
         pushes_right t n took pushed a k (Packet c.session c.dispatched b) true (record c { taken = c.taken + 1 }) some idle free q.home q.flows
           (tale_taken t c.ip c.session c.uid c.split c.pieces c.taken c.dispatched c.cause c.phase pushed q.tale b e)
@@ -226,18 +240,20 @@ cut_right t fault n took pushed a k c some idle grows q free none begun = pick a
     whole : slice_get (packets_cut t c.pieces) c.taken ≡ None → c.dispatched ≡ length (packets_cut t c.pieces)
     whole e = (let h : length (packets_cut t c.pieces) ≤ c.taken = past_end (packets_cut t c.pieces) c.taken e in let g : c.taken ≤ length (packets_cut t c.pieces) = q.tale.few in let v : c.taken ≡ c.dispatched = even in omega arith)
 
-    stuck : slice_get (packets_cut t c.pieces) c.taken ≡ None → (f : Fault) → ServedRight t n took pushed c.session (cut_by t a k (behind f) c)
-    stuck e Fine = read_right t n took pushed a.feed_starved a.read c grows q free none (whole e)
-    stuck e (Long m) = record { session = refl; does = soft_now t n took pushed c (TooLong m) q none refl (whole e) ((λ z. absurd (cc)), (λ z. absurd (cc))) }
-    stuck e (Bad m) = record { session = refl; does = soft_now t n took pushed c (BadLength m) q none refl (whole e) ((λ z. absurd (cc)), (λ z. absurd (cc))) }
+    stuck : slice_get (packets_cut t c.pieces) c.taken ≡ None → (f : Option First) → ServedRight t n took pushed c.session (cut_by t a k (starve a.cut_starved (next_rest f)) c)
+    stuck e None = read_right t n took pushed a.feed_starved a.read c grows q free none (whole e)
+    stuck e (Some (first.Packet m)) = read_right t n took pushed a.feed_starved a.read c grows q free none (whole e)
+    stuck e (Some first.More) = read_right t n took pushed a.feed_starved a.read c grows q free none (whole e)
+    stuck e (Some (first.TooLong m)) = record { session = refl; does = soft_now t n took pushed c (TooLong m) q none refl (whole e) ((λ z. absurd (cc)), (λ z. absurd (cc))) }
+    stuck e (Some (first.BadLength m)) = record { session = refl; does = soft_now t n took pushed c (BadLength m) q none refl (whole e) ((λ z. absurd (cc)), (λ z. absurd (cc))) }
 
-    at : (o : Option (List ℕ)) → slice_get (packets_cut t c.pieces) c.taken ≡ o → ServedRight t n took pushed c.session (cut_by t a k (next_at (fault c.pieces) o) c)
-    at (Some b) e = packet b e
-    at None e = stuck e (fault c.pieces)
+    given : (b : List ℕ) → slice_get (packets_cut t c.pieces) c.taken ≡ Some b → (x : Bool) → ServedRight t n took pushed c.session (cut_by t a k (if x then next.OutOfMemory else next.Packet b) c)
+    given b e true = record { session = refl; does = hard_now t n took pushed c NoMemory q refl (λ m r. absurd (cc)) ((λ z. absurd (cc)), (λ z. absurd (cc))) }
+    given b e false = packet b e
 
-    pick : (b : Bool) → ServedRight t n took pushed c.session (cut_by t a k (if b then NextStuck NoMemory else next_at (fault c.pieces) (slice_get (packets_cut t c.pieces) c.taken)) c)
-    pick true = record { session = refl; does = hard_now t n took pushed c NoMemory q refl (λ m r. absurd (cc)) ((λ z. absurd (cc)), (λ z. absurd (cc))) }
-    pick false = at (slice_get (packets_cut t c.pieces) c.taken) refl
+    at : (o : Option (List ℕ)) → slice_get (packets_cut t c.pieces) c.taken ≡ o → ServedRight t n took pushed c.session (cut_by t a k (starve a.cut_starved (next_by (cut t.framing c.pieces).fault o)) c)
+    at (Some b) e = given b e a.cut_starved
+    at None e = stuck e (cut t.framing c.pieces).fault
 
 -- points 7 to 9
 closes_open : (t : Terms) (phase : Phase) → connects t phase ≡ false → closes t phase ≡ true → (phase ≡ Open) × (bound t.mode ≡ true)
@@ -274,13 +290,13 @@ end_right t n took pushed a k e c some idle q free caused begun = pick (closes t
     pick true on = (let g = closes_open t c.phase begun on in pushes_right t n took pushed a k (Closed c.session) false c some idle free q.home q.flows q.tale (refl, g.0, g.1, (e, caused)))
     pick false off = record { session = refl; does = over off (can_leave c) refl }
 
-cause_right : (t : Terms) (fault : List (List ℕ) → Fault) (n : ℕ) (took pushed : Mail) (a : Answers) (k : ℕ) (c : Conn) → 0 < t.worker_num → IsIdle t a → Grows t → QuietConn t n took pushed c → c.held ≡ None → connects t c.phase ≡ false → (o : Option Cause) → c.cause ≡ o → ServedRight t n took pushed c.session (cause_by t fault a k o c)
-cause_right t fault n took pushed a k c some idle grows q free begun None none = pick (nat_lt c.dispatched (2 ^ 64 - 1))
+cause_right : (t : Terms) (n : ℕ) (took pushed : Mail) (a : Answers) (k : ℕ) (c : Conn) → 0 < t.worker_num → IsIdle t a → Grows t → QuietConn t n took pushed c → c.held ≡ None → connects t c.phase ≡ false → (o : Option Cause) → c.cause ≡ o → ServedRight t n took pushed c.session (cause_by t a k o c)
+cause_right t n took pushed a k c some idle grows q free begun None none = pick (nat_lt c.dispatched (2 ^ 64 - 1))
   where
-    pick : (b : Bool) → ServedRight t n took pushed c.session (if b then cut_by t a k (next_of t fault a.cut_starved c) c else plain c Stays)
-    pick true = cut_right t fault n took pushed a k c some idle grows q free none begun
+    pick : (b : Bool) → ServedRight t n took pushed c.session (if b then cuts_next t a k c else plain c Stays)
+    pick true = cut_right t n took pushed a k c some idle grows q free none begun
     pick false = record { session = refl; does = q }
-cause_right t fault n took pushed a k c some idle grows q free begun (Some e) caused = end_right t n took pushed a k e c some idle q free caused begun
+cause_right t n took pushed a k c some idle grows q free begun (Some e) caused = end_right t n took pushed a k e c some idle q free caused begun
 
 -- point 3
 connects_coming : (t : Terms) (phase : Phase) → connects t phase ≡ true → (phase ≡ Coming) × (bound t.mode ≡ true)
@@ -288,33 +304,34 @@ connects_coming t Coming e = (refl, e)
 connects_coming t Open e = absurd (cc)
 connects_coming t Closing e = absurd (cc)
 
-open_right : (t : Terms) (fault : List (List ℕ) → Fault) (n : ℕ) (took pushed : Mail) (a : Answers) (k : ℕ) (c : Conn) → 0 < t.worker_num → IsIdle t a → Grows t → QuietConn t n took pushed c → c.held ≡ None → ServedRight t n took pushed c.session (open_by t fault a k c)
-open_right t fault n took pushed a k c some idle grows q free = pick (connects t c.phase) refl
+open_right : (t : Terms) (n : ℕ) (took pushed : Mail) (a : Answers) (k : ℕ) (c : Conn) → 0 < t.worker_num → IsIdle t a → Grows t → QuietConn t n took pushed c → c.held ≡ None → ServedRight t n took pushed c.session (open_by t a k c)
+open_right t n took pushed a k c some idle grows q free = pick (connects t c.phase) refl
   where
-    pick : (b : Bool) → connects t c.phase ≡ b → ServedRight t n took pushed c.session (if b then pushes t a k (Connect c.session) false c else cause_by t fault a k c.cause c)
+    pick : (b : Bool) → connects t c.phase ≡ b → ServedRight t n took pushed c.session (if b then pushes t a k (Connect c.session) false c else cause_by t a k c.cause c)
     pick true on =
         (let g = connects_coming t c.phase on in
         let h : HeldOf t c None = subst (HeldOf t c) free q.held in
         pushes_right t n took pushed a k (Connect c.session) false c some idle free q.home q.flows q.tale (refl, g.0, g.1, h))
-    pick false off = cause_right t fault n took pushed a k c some idle grows q free off c.cause refl
+    pick false off = cause_right t n took pushed a k c some idle grows q free off c.cause refl
 
 -- point 2
-held_right : (t : Terms) (fault : List (List ℕ) → Fault) (n : ℕ) (took pushed : Mail) (a : Answers) (k : ℕ) (c : Conn) → 0 < t.worker_num → IsIdle t a → Grows t → QuietConn t n took pushed c → (h : Option (ℕ × Event)) → c.held ≡ h → ServedRight t n took pushed c.session (held_by t fault a k h c)
-held_right t fault n took pushed a k c some idle grows q (Some h) e =
+held_right : (t : Terms) (n : ℕ) (took pushed : Mail) (a : Answers) (k : ℕ) (c : Conn) → 0 < t.worker_num → IsIdle t a → Grows t → QuietConn t n took pushed c → (h : Option (ℕ × Event)) → c.held ≡ h → ServedRight t n took pushed c.session (held_by t a k h c)
+held_right t n took pushed a k c some idle grows q (Some h) e =
     record { session = refl; does = push_right t n took pushed (record c { held = None }) h.0 h.1 refl q.home q.flows q.tale (subst (HeldOf t c) e q.held) }
-held_right t fault n took pushed a k c some idle grows q None e = open_right t fault n took pushed a k c some idle grows q e
+held_right t n took pushed a k c some idle grows q None e = open_right t n took pushed a k c some idle grows q e
 
 -- point 1
 pub record TidyRight (t : Terms) (n : ℕ) (took pushed : Mail) (s : ℕ) (c : Conn) : Type 0 where
   pub session : c.session ≡ s
   pub quiet : QuietConn t n took pushed c
 
-flushed_right : (t : Terms) (n : ℕ) (took pushed : Mail) (w : Wrote) (c : Conn) → QuietConn t n took pushed c → TidyRight t n took pushed c.session (flushed w c)
+flushed_right : (t : Terms) (n : ℕ) (took pushed : Mail) (w : LinkWrite) (c : Conn) → QuietConn t n took pushed c → TidyRight t n took pushed c.session (flushed w c)
 flushed_right t n took pushed w c q = pick (is_hard c.cause) refl
   where
-    written : is_hard c.cause ≡ false → (v : Wrote) → TidyRight t n took pushed c.session (wrote v c)
-    written h (WroteBytes k) = record { session = refl; quiet = record { home = q.home; flows = flow_wrote t c.ip c.session c.cause c.written c.unsent c.awaited (dues t c.session pushed) took q.flows h k; tale = q.tale; held = q.held } }
-    written h WriteFailed = record { session = refl; quiet = hard_now t n took pushed c WriteFault q refl (λ m r. absurd (cc)) ((λ z. absurd (cc)), (λ z. absurd (cc))) }
+    written : is_hard c.cause ≡ false → (v : LinkWrite) → TidyRight t n took pushed c.session (wrote v c)
+    written h (writing.Took k) = record { session = refl; quiet = record { home = q.home; flows = flow_wrote t c.ip c.session c.cause c.written c.unsent c.awaited (dues t c.session pushed) took q.flows h k; tale = q.tale; held = q.held } }
+    written h writing.NotYet = record { session = refl; quiet = q }
+    written h writing.Failed = record { session = refl; quiet = hard_now t n took pushed c WriteFault q refl (λ m r. absurd (cc)) ((λ z. absurd (cc)), (λ z. absurd (cc))) }
 
     some : is_hard c.cause ≡ false → (us : List ℕ) → TidyRight t n took pushed c.session (flushed_some w us c)
     some h [] = record { session = refl; quiet = q }
@@ -340,9 +357,9 @@ cleared_right t n took pushed c q = record { home = q.home; flows = flow (is_har
     hold false h = q.held
 
 -- a serve
-pub serve_right : (t : Terms) (fault : List (List ℕ) → Fault) (n : ℕ) (took pushed : Mail) (a : Answers) (k : ℕ) (c : Conn) → 0 < t.worker_num → IsIdle t a → Grows t → QuietConn t n took pushed c → ServedRight t n took pushed c.session (serve t fault a k c)
-serve_right t fault n took pushed a k c some idle grows q =
+pub serve_right : (t : Terms) (n : ℕ) (took pushed : Mail) (a : Answers) (k : ℕ) (c : Conn) → 0 < t.worker_num → IsIdle t a → Grows t → QuietConn t n took pushed c → ServedRight t n took pushed c.session (serve t a k c)
+serve_right t n took pushed a k c some idle grows q =
     let f = flushed_right t n took pushed a.write c q in
     let g : QuietConn t n took pushed (tidied a c) = cleared_right t n took pushed (flushed a.write c) f.quiet in
-    let r : ServedRight t n took pushed (tidied a c).session (serve t fault a k c) = held_right t fault n took pushed a k (tidied a c) some idle grows g (tidied a c).held refl in
+    let r : ServedRight t n took pushed (tidied a c).session (serve t a k c) = held_right t n took pushed a k (tidied a c) some idle grows g (tidied a c).held refl in
     record { session = r.session ∙ f.session; does = r.does }

@@ -2,6 +2,8 @@
 use Rattle.std.proofs.Common.{◌≡◌, ℕ, ◌+◌, ◌-◌, ◌<◌, ◌≤◌, ◌==◌, Bool, true, false, nat_lt, if◌then◌else◌, List, [], ◌∷◌, ◌++◌, length, refl, ap, ◌∙◌, sym, subst, append-nil, arith, Option, Some, None}
 use Rattle.std.proofs.lemmas.Bool.Decides.{nat_tests}
 use Rattle.std.specs.List.{concat}
+use Rattle.sw_conn.specs.Causes.{hard, is_hard}
+use Rattle.sw_conn.specs.Conn.{set_soft, set_hard}
 use Rattle.sw_lists.specs.Lists.{collect, when}
 use Rattle.sw_lists.proofs.Lists.{eq_same, eq_other, eq_is, append_none}
 use Rattle.sw_step.specs.declared.actor.ActorId.{ActorId}
@@ -11,7 +13,7 @@ use Rattle.sw_record.specs.Whole.{IsAllCut}
 use Rattle.sw_past.specs.Messages.{Message, FreshMsg, SendMsg, CloseMsg, ResetMsg, Bye, EventMsg, OverMsg, NoMore}
 use Rattle.sw_past.specs.Past.{Mail, bare}
 use Rattle.sw_past.specs.Views.{sends_in, byes_in, close_of, reset_of}
-use Rattle.sw_reactor_laws.specs.Conn.{Conn, hard, is_hard, set_soft, set_hard, sent, sent_open, takes, stops}
+use Rattle.sw_reactor_laws.specs.Conn.{Conn, sent, sent_open, takes, stops}
 use Rattle.sw_reactor_laws.specs.Quiet.{IsCaused, Flows, HasCause, QuietConn, dues}
 use Rattle.sw_reactor_laws.proofs.Flow.{more_of, flow_late, flow_mid, flow_plain, flow_much, flow_soft, flow_hard}
 use Rattle.sw_reactor_laws.proofs.Tale.{tale_cause, held_cause}

@@ -1,5 +1,13 @@
 -- A connection has the cause Stop only where a turn of its reactor read the stop word.
-use Rattle.std.proofs.Common.{◌≡◌, ℕ, ◌+◌, ◌==◌, ◌-◌, ◌^◌, Bool, true, false, nat_lt, if◌then◌else◌, List, [], ◌∷◌, ◌++◌, length, slice_get, refl, ap, ◌∙◌, sym, subst, append-nil, append_assoc, Option, Some, None}
+use Rattle.std.proofs.Common.{◌≡◌, ℕ, ◌+◌, ◌==◌, ◌-◌, ◌^◌, Bool, true, false, nat_lt, if◌then◌else◌, List, [], ◌∷◌, ◌++◌, length, slice_get, refl, ap, ◌∙◌, sym, subst, append-nil, append_assoc, Option, Some, None, map}
+use Rattle.sw_link.specs.declared.link.LinkWrite.{LinkWrite}
+use Rattle.sw_link.specs.Reads.{Read, GotPiece, ReadNotYet, ReadEnd, ReadFailed}
+use Rattle.sw_conn.specs.Causes.{hard, is_hard}
+use Rattle.sw_conn.specs.Conn.{set_soft, set_hard}
+use Rattle.sw_data.specs.declared.messages.Got.{Got}
+use Rattle.sw_data.specs.declared.messages.Got.TheVariants.{Start, Took, Empty, Pushed, Full}
+use Rattle.sw_link.specs.declared.link.LinkWrite.TheVariants as writing
+use Rattle.sw_data.specs.declared.messages.Got.TheVariants as gots
 use Rattle.sw_lists.specs.Lists.{Each}
 use Rattle.sw_lists.proofs.Lists.{each_append, each_left, each_right}
 use Rattle.sw_record.specs.Words.{Event, Connect, Packet, Closed, Finish, Task, Cause, TooLong, BadLength, Stop, NoMemory, Overflow, ServerClose, ResetCause, Ended}
@@ -8,11 +16,17 @@ use Rattle.sw_record.specs.declared.record.LinkRecord.{LinkRecord}
 use Rattle.sw_record.specs.Terms.{Terms, packets_cut}
 use Rattle.sw_past.specs.Messages.{Message, FreshMsg, SendMsg, CloseMsg, ResetMsg, Bye, EventMsg, OverMsg, NoMore}
 use Rattle.sw_past.specs.Past.{Mail}
-use Rattle.sw_reactor_laws.specs.Conn.{Conn, Wrote, WroteBytes, WriteFailed, Read, GotPiece, ReadNotYet, ReadEnd, ReadFailed, Answers, Fault, Fine, Long, Bad, hard, is_hard, set_soft, set_hard, fresh, sent, takes, stops, noted, holds, at_event, wrote, flushed_some, flushed, writes, Does, Pushes, Moves, Stays, Leaves, Served, looked, place, pushes, plain, NextStuck, behind, next_at, next_of, read_by, cut_by, closes, can_leave, end_by, cause_by, connects, open_by, held_by, tidied, serve, account, over_link}
-use Rattle.sw_reactor_laws.specs.Reactor.{Reactor, Ask, Take, Push, Nothing, Rest, Finished, Got, Start, Took, Empty, Pushed, Full, GotNothing, all, map, each_conn, settled, settled_msg, settled_push, settled_full, pushed_by, full_by, turned, stayed, served_by, counted, ends_by, serves, chosen, turn, started}
+use Rattle.sw_reactor_laws.specs.Conn.{cuts_next, starve, Conn, Answers, fresh, sent, takes, stops, noted, holds, at_event, wrote, flushed_some, flushed, writes, Does, Pushes, Moves, Stays, Leaves, Served, looked, place, pushes, plain, read_by, cut_by, closes, can_leave, end_by, cause_by, connects, open_by, held_by, tidied, serve, account, over_link}
+use Rattle.sw_reactor_laws.specs.Reactor.{Reactor, Ask, Take, Push, Nothing, Rest, Finished, all, each_conn, settled, settled_msg, settled_push, settled_full, pushed_by, full_by, turned, stayed, served_by, counted, ends_by, serves, chosen, turn, started}
 use Rattle.sw_reactor_laws.specs.Runs.{Runs, First, Then}
 use Rattle.sw_reactor_laws.specs.Stopped.{CalmOf, Calm, CalmLink, stop_read}
 use Rattle.sw_reactor_laws.proofs.Known.{settled_over, turned_over}
+use Rattle.sw_frame.specs.Cutting.{next_by, next_rest}
+use Rattle.sw_frame.specs.Cut.{cut}
+use Rattle.sw_cut.specs.declared.First.{First as FirstOf}
+use Rattle.sw_cut.specs.declared.First.TheVariants as first
+use Rattle.sw_frame.specs.declared.next.Next.{Next}
+use Rattle.sw_frame.specs.declared.next.Next.TheVariants as next
 
 -- a serve
 pub record CalmServed (b : Bool) (v : Served) : Type 0 where
@@ -43,21 +57,23 @@ read_calm b starved ReadFailed c h = record { conn = λ e. absurd (cc); leaves =
 stuck_calm : (b : Bool) (e : Cause) (c : Conn) → ¬ (e ≡ Stop) → CalmServed b (plain (record c { cause = Some e }) Moves)
 stuck_calm b e c n = record { conn = λ q. absurd (n (let g : e ≡ Stop = (let z : Some e ≡ Some Stop = q in cc) in g)); leaves = λ d q. absurd (cc) }
 
-cut_calm : (b : Bool) (t : Terms) (fault : List (List ℕ) → Fault) (a : Answers) (k : ℕ) (c : Conn) → Calm b c → CalmServed b (cut_by t a k (next_of t fault a.cut_starved c) c)
-cut_calm b t fault a k c h = pick a.cut_starved
+cut_calm : (b : Bool) (t : Terms) (a : Answers) (k : ℕ) (c : Conn) → Calm b c → CalmServed b (cuts_next t a k c)
+cut_calm b t a k c h = at (slice_get (packets_cut t c.pieces) c.taken)
   where
-    stuck : (f : Fault) → CalmServed b (cut_by t a k (behind f) c)
-    stuck Fine = read_calm b a.feed_starved a.read c h
-    stuck (Long m) = stuck_calm b (TooLong m) c (λ q. absurd (cc))
-    stuck (Bad m) = stuck_calm b (BadLength m) c (λ q. absurd (cc))
+    stuck : (f : Option FirstOf) → CalmServed b (cut_by t a k (starve a.cut_starved (next_rest f)) c)
+    stuck None = read_calm b a.feed_starved a.read c h
+    stuck (Some (first.Packet m)) = read_calm b a.feed_starved a.read c h
+    stuck (Some first.More) = read_calm b a.feed_starved a.read c h
+    stuck (Some (first.TooLong m)) = stuck_calm b (TooLong m) c (λ q. absurd (cc))
+    stuck (Some (first.BadLength m)) = stuck_calm b (BadLength m) c (λ q. absurd (cc))
 
-    at : (o : Option (List ℕ)) → CalmServed b (cut_by t a k (next_at (fault c.pieces) o) c)
-    at (Some p) = pushes_calm b t a k (Packet c.session c.dispatched p) true (record c { taken = c.taken + 1 }) h
-    at None = stuck (fault c.pieces)
+    packet : (p : List ℕ) (x : Bool) → CalmServed b (cut_by t a k (if x then next.OutOfMemory else next.Packet p) c)
+    packet p true = stuck_calm b NoMemory c (λ q. absurd (cc))
+    packet p false = pushes_calm b t a k (Packet c.session c.dispatched p) true (record c { taken = c.taken + 1 }) h
 
-    pick : (x : Bool) → CalmServed b (cut_by t a k (if x then NextStuck NoMemory else next_at (fault c.pieces) (slice_get (packets_cut t c.pieces) c.taken)) c)
-    pick true = stuck_calm b NoMemory c (λ q. absurd (cc))
-    pick false = at (slice_get (packets_cut t c.pieces) c.taken)
+    at : (o : Option (List ℕ)) → CalmServed b (cut_by t a k (starve a.cut_starved (next_by (cut t.framing c.pieces).fault o)) c)
+    at (Some p) = packet p a.cut_starved
+    at None = stuck (cut t.framing c.pieces).fault
 
 end_calm : (b : Bool) (t : Terms) (a : Answers) (k : ℕ) (e : Cause) (c : Conn) → c.cause ≡ Some e → Calm b c → CalmServed b (end_by t a k e c)
 end_calm b t a k e c caused h = pick (closes t c.phase)
@@ -70,31 +86,32 @@ end_calm b t a k e c caused h = pick (closes t c.phase)
     pick true = pushes_calm b t a k (Closed c.session) false c h
     pick false = record { conn = h; leaves = goes (can_leave c) }
 
-cause_calm : (b : Bool) (t : Terms) (fault : List (List ℕ) → Fault) (a : Answers) (k : ℕ) (o : Option Cause) (c : Conn) → c.cause ≡ o → Calm b c → CalmServed b (cause_by t fault a k o c)
-cause_calm b t fault a k None c e h = pick (nat_lt c.dispatched (2 ^ 64 - 1))
+cause_calm : (b : Bool) (t : Terms) (a : Answers) (k : ℕ) (o : Option Cause) (c : Conn) → c.cause ≡ o → Calm b c → CalmServed b (cause_by t a k o c)
+cause_calm b t a k None c e h = pick (nat_lt c.dispatched (2 ^ 64 - 1))
   where
-    pick : (x : Bool) → CalmServed b (if x then cut_by t a k (next_of t fault a.cut_starved c) c else plain c Stays)
-    pick true = cut_calm b t fault a k c h
+    pick : (x : Bool) → CalmServed b (if x then cuts_next t a k c else plain c Stays)
+    pick true = cut_calm b t a k c h
     pick false = record { conn = h; leaves = λ d q. absurd (cc) }
-cause_calm b t fault a k (Some e) c q h = end_calm b t a k e c q h
+cause_calm b t a k (Some e) c q h = end_calm b t a k e c q h
 
-open_calm : (b : Bool) (t : Terms) (fault : List (List ℕ) → Fault) (a : Answers) (k : ℕ) (c : Conn) → Calm b c → CalmServed b (open_by t fault a k c)
-open_calm b t fault a k c h = pick (connects t c.phase)
+open_calm : (b : Bool) (t : Terms) (a : Answers) (k : ℕ) (c : Conn) → Calm b c → CalmServed b (open_by t a k c)
+open_calm b t a k c h = pick (connects t c.phase)
   where
-    pick : (x : Bool) → CalmServed b (if x then pushes t a k (Connect c.session) false c else cause_by t fault a k c.cause c)
+    pick : (x : Bool) → CalmServed b (if x then pushes t a k (Connect c.session) false c else cause_by t a k c.cause c)
     pick true = pushes_calm b t a k (Connect c.session) false c h
-    pick false = cause_calm b t fault a k c.cause c refl h
+    pick false = cause_calm b t a k c.cause c refl h
 
-held_calm : (b : Bool) (t : Terms) (fault : List (List ℕ) → Fault) (a : Answers) (k : ℕ) (o : Option (ℕ × Event)) (c : Conn) → Calm b c → CalmServed b (held_by t fault a k o c)
-held_calm b t fault a k (Some x) c h = record { conn = h; leaves = λ d q. no_leave b x.0 x.1 d q }
-held_calm b t fault a k None c h = open_calm b t fault a k c h
+held_calm : (b : Bool) (t : Terms) (a : Answers) (k : ℕ) (o : Option (ℕ × Event)) (c : Conn) → Calm b c → CalmServed b (held_by t a k o c)
+held_calm b t a k (Some x) c h = record { conn = h; leaves = λ d q. no_leave b x.0 x.1 d q }
+held_calm b t a k None c h = open_calm b t a k c h
 
-flushed_calm : (b : Bool) (w : Wrote) (c : Conn) → Calm b c → Calm b (flushed w c)
+flushed_calm : (b : Bool) (w : LinkWrite) (c : Conn) → Calm b c → Calm b (flushed w c)
 flushed_calm b w c h = pick (is_hard c.cause)
   where
-    written : (v : Wrote) → Calm b (wrote v c)
-    written (WroteBytes k) = h
-    written WriteFailed = λ e. absurd (cc)
+    written : (v : LinkWrite) → Calm b (wrote v c)
+    written (writing.Took k) = h
+    written writing.NotYet = h
+    written writing.Failed = λ e. absurd (cc)
 
     some : (us : List ℕ) → Calm b (flushed_some w us c)
     some [] = h
@@ -104,8 +121,8 @@ flushed_calm b w c h = pick (is_hard c.cause)
     pick true = h
     pick false = some c.unsent
 
-serve_calm : (b : Bool) (t : Terms) (fault : List (List ℕ) → Fault) (a : Answers) (k : ℕ) (c : Conn) → Calm b c → CalmServed b (serve t fault a k c)
-serve_calm b t fault a k c h = held_calm b t fault a k (tidied a c).held (tidied a c) (flushed_calm b a.write c h)
+serve_calm : (b : Bool) (t : Terms) (a : Answers) (k : ℕ) (c : Conn) → Calm b c → CalmServed b (serve t a k c)
+serve_calm b t a k c h = held_calm b t a k (tidied a c).held (tidied a c) (flushed_calm b a.write c h)
 
 soft_calm : (b : Bool) (o : Option Cause) → CalmOf b o → CalmOf b (set_soft ServerClose o)
 soft_calm b None h = λ e. absurd (cc)
@@ -210,13 +227,13 @@ back_calm b t Nothing m r h = h
 back_calm b t Rest m r h = h
 back_calm b t Finished m r h = h
 
-settled_calm : (b : Bool) (t : Terms) (starved : Bool) (got : Got) (r : Reactor) → Each (Calm b) (all r) → Each (Calm b) (all (settled t starved got r))
+settled_calm : (b : Bool) (t : Terms) (starved : Bool) (got : Got Message) (r : Reactor) → Each (Calm b) (all r) → Each (Calm b) (all (settled t starved got r))
 settled_calm b t starved Start r h = h
 settled_calm b t starved (Took m) r h = msg_calm b t starved m (record r { empty = false }) h
 settled_calm b t starved Empty r h = h
 settled_calm b t starved Pushed r h = pushed_calm b t r.last r h
 settled_calm b t starved (Full m) r h = back_calm b t r.last m r h
-settled_calm b t starved GotNothing r h = h
+settled_calm b t starved gots.Nothing r h = h
 
 -- what is chosen, with the stop word read or not
 turned_calm : (b : Bool) (done cs : List Conn) (r : Reactor) → Each (Calm b) (done ++ cs) → Each (Calm b) (all (turned done cs r))
@@ -252,13 +269,13 @@ ends_calm b t r h = pick (nat_lt 0 r.ends) (nat_lt r.given t.worker_num) (r.ends
     pick true false false = record { conns = h.conns; over = h.over }
     pick false y z = record { conns = h.conns; over = h.over }
 
-serves_calm : (b : Bool) (t : Terms) (fault : List (List ℕ) → Fault) (a : Answers) (r : Reactor) → (next : List Conn) → r.next ≡ next → AllCalm b r → AllCalm b (serves t fault a next r)
-serves_calm b t fault a r [] e h = ends_calm b t r h
-serves_calm b t fault a r (c ∷ cs) e h =
-    let v : Served = serve t fault a r.round c in
+serves_calm : (b : Bool) (t : Terms) (a : Answers) (r : Reactor) → (next : List Conn) → r.next ≡ next → AllCalm b r → AllCalm b (serves t a next r)
+serves_calm b t a r [] e h = ends_calm b t r h
+serves_calm b t a r (c ∷ cs) e h =
+    let v : Served = serve t a r.round c in
     let front : Each (Calm b) r.done = each_left (Calm b) r.done r.next h.conns in
     let back : Each (Calm b) (c ∷ cs) = subst (Each (Calm b)) e (each_right (Calm b) r.done r.next h.conns) in
-    let s : CalmServed b v = serve_calm b t fault a r.round c back.0 in
+    let s : CalmServed b v = serve_calm b t a r.round c back.0 in
     served_calm b t a (writes a.write c) cs v.conn v.does (record r { round = counted v.cuts r.round })
       (each_append (Calm b) (r.done ++ v.conn ∷ []) cs (each_append (Calm b) r.done (v.conn ∷ []) front (s.conn, tt)) back.1)
       (each_append (Calm b) r.done cs front back.1) s.leaves h.over
@@ -288,21 +305,21 @@ stops_calm : (b : Bool) (r : Reactor) → AllCalm b r → (x : Bool) → AllCalm
 stops_calm b r h true = record { conns = conns_true _; over = links_true _ }
 stops_calm b r h false = record { conns = h.conns; over = h.over }
 
-chosen_calm : (b : Bool) (t : Terms) (fault : List (List ℕ) → Fault) (a : Answers) (r : Reactor) → AllCalm b r → (ask : Ask) → AllCalm (if a.stop then true else b) (chosen t fault a ask r)
-chosen_calm b t fault a r h Take = (let s : AllCalm b (serves t fault a r.next r) = serves_calm b t fault a r r.next refl h in record { conns = conns_more a.stop b _ s.conns; over = links_more a.stop b _ s.over })
-chosen_calm b t fault a r h (Push w m) = stops_calm b r h a.stop
-chosen_calm b t fault a r h Nothing = stops_calm b r h a.stop
-chosen_calm b t fault a r h Rest = stops_calm b r h a.stop
-chosen_calm b t fault a r h Finished = stops_calm b r h a.stop
+chosen_calm : (b : Bool) (t : Terms) (a : Answers) (r : Reactor) → AllCalm b r → (ask : Ask) → AllCalm (if a.stop then true else b) (chosen t a ask r)
+chosen_calm b t a r h Take = (let s : AllCalm b (serves t a r.next r) = serves_calm b t a r r.next refl h in record { conns = conns_more a.stop b _ s.conns; over = links_more a.stop b _ s.over })
+chosen_calm b t a r h (Push w m) = stops_calm b r h a.stop
+chosen_calm b t a r h Nothing = stops_calm b r h a.stop
+chosen_calm b t a r h Rest = stops_calm b r h a.stop
+chosen_calm b t a r h Finished = stops_calm b r h a.stop
 
 if_stop : (x : Bool) → (if x then true else false) ≡ x
 if_stop true = refl
 if_stop false = refl
 
 -- all runs: a cause Stop, also of a link that ended, comes from a turn that read the stop word
-pub runs_calm : (t : Terms) (fault : List (List ℕ) → Fault) (word : ℕ → ℕ) (took pushed : Mail) (r : Reactor) (runs : Runs t fault word took pushed r) → AllCalm (stop_read runs) r
-runs_calm t fault word _ _ _ (First starved a f) = subst (λ (x : Bool). AllCalm x (turn t fault starved a Start started)) (if_stop a.stop) (chosen_calm false t fault a started (record { conns = tt; over = tt }) started.last)
-runs_calm t fault word _ _ _ (Then {took = took} {pushed = pushed} {r = r} before later more got call starved a f) =
-    let h : AllCalm (stop_read before) r = runs_calm t fault word took pushed r before in
-    chosen_calm (stop_read before) t fault a (settled t starved got r)
+pub runs_calm : (t : Terms) (word : ℕ → ℕ) (took pushed : Mail) (r : Reactor) (runs : Runs t word took pushed r) → AllCalm (stop_read runs) r
+runs_calm t word _ _ _ (First starved a f) = subst (λ (x : Bool). AllCalm x (turn t starved a Start started)) (if_stop a.stop) (chosen_calm false t a started (record { conns = tt; over = tt }) started.last)
+runs_calm t word _ _ _ (Then {took = took} {pushed = pushed} {r = r} before later more got call starved a f) =
+    let h : AllCalm (stop_read before) r = runs_calm t word took pushed r before in
+    chosen_calm (stop_read before) t a (settled t starved got r)
       (record { conns = settled_calm (stop_read before) t starved got r h.conns; over = subst (Each (CalmLink (stop_read before))) (sym (settled_over t starved got r)) h.over }) r.last

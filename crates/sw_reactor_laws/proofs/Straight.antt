@@ -1,5 +1,15 @@
 -- What a reactor pushes goes to a worker, whatever it took.
-use Rattle.std.proofs.Common.{◌≡◌, ℕ, ◌+◌, ◌<◌, ◌==◌, ◌-◌, ◌^◌, Bool, true, false, nat_lt, if◌then◌else◌, List, [], ◌∷◌, ◌++◌, length, refl, sym, subst, append-nil, append_assoc, Option, Some, None}
+use Rattle.std.proofs.Common.{◌≡◌, ℕ, ◌+◌, ◌<◌, ◌==◌, ◌-◌, ◌^◌, Bool, true, false, nat_lt, if◌then◌else◌, List, [], ◌∷◌, ◌++◌, length, refl, sym, subst, append-nil, append_assoc, Option, Some, None, map}
+use Rattle.sw_link.specs.declared.link.LinkWrite.{LinkWrite}
+use Rattle.sw_link.specs.Reads.{Read, GotPiece, ReadNotYet, ReadEnd, ReadFailed}
+use Rattle.sw_conn.specs.Causes.{is_hard, drops}
+use Rattle.sw_conn.specs.Conn.{set_soft, set_hard, drop_packet}
+use Rattle.sw_data.specs.declared.messages.Got.{Got}
+use Rattle.sw_data.specs.declared.messages.Got.TheVariants.{Start, Took, Empty, Pushed, Full}
+use Rattle.sw_link.specs.declared.link.LinkWrite.TheVariants as writing
+use Rattle.sw_frame.specs.declared.next.Next.{Next}
+use Rattle.sw_frame.specs.declared.next.Next.TheVariants as next
+use Rattle.sw_data.specs.declared.messages.Got.TheVariants as gots
 use Rattle.sw_lists.specs.Lists.{Each}
 use Rattle.sw_lists.proofs.Lists.{each_append, each_left, each_right}
 use Rattle.sw_step.specs.declared.actor.ActorId.TheVariants.{Worker}
@@ -8,12 +18,13 @@ use Rattle.sw_record.specs.Terms.{Terms}
 use Rattle.sw_past.specs.Messages.{Message, FreshMsg, SendMsg, CloseMsg, ResetMsg, Bye, EventMsg, OverMsg, NoMore}
 use Rattle.sw_past.specs.Past.{Mail}
 use Rattle.sw_past.specs.Routes.{ToWorker}
-use Rattle.sw_reactor_laws.specs.Conn.{Conn, Wrote, WroteBytes, WriteFailed, Read, GotPiece, ReadNotYet, ReadEnd, ReadFailed, Answers, Fault, is_hard, set_soft, set_hard, fresh, sent, takes, stops, noted, holds, at_event, drop_packet, wrote, flushed_some, flushed, drops, writes, Does, Pushes, Moves, Stays, Leaves, Served, looked, pushes, plain, Next, NextPacket, NextMore, NextStuck, next_of, read_by, cut_by, closes, can_leave, end_by, cause_by, connects, open_by, held_by, tidied, serve}
-use Rattle.sw_reactor_laws.specs.Reactor.{Reactor, Ask, Take, Push, Nothing, Rest, Finished, Got, Start, Took, Empty, Pushed, Full, GotNothing, all, map, each_conn, settled, settled_msg, settled_push, settled_full, pushed_by, full_by, turned, rest_by, stayed, served_by, counted, ends_by, serves, chosen, turn}
+use Rattle.sw_reactor_laws.specs.Conn.{cuts_next, starve, cutter, Conn, Answers, fresh, sent, takes, stops, noted, holds, at_event, wrote, flushed_some, flushed, writes, Does, Pushes, Moves, Stays, Leaves, Served, looked, pushes, plain, read_by, cut_by, closes, can_leave, end_by, cause_by, connects, open_by, held_by, tidied, serve}
+use Rattle.sw_reactor_laws.specs.Reactor.{Reactor, Ask, Take, Push, Nothing, Rest, Finished, all, each_conn, settled, settled_msg, settled_push, settled_full, pushed_by, full_by, turned, rest_by, stayed, served_by, counted, ends_by, serves, chosen, turn}
 use Rattle.sw_reactor_laws.specs.Quiet.{IsIdle}
 use Rattle.sw_reactor_laws.specs.Runs.{HeldBelow, HoldsBelow, AsksBelow, DoesBelow, Straight}
 use Rattle.sw_reactor_laws.proofs.Settle.{lt_is}
 use Rattle.sw_reactor_laws.proofs.Serve.{place_below}
+use Rattle.sw_frame.specs.Cutting.{next_of}
 
 -- a serve
 pub record StraightServed (t : Terms) (v : Served) : Type 0 where
@@ -35,9 +46,11 @@ read_straight t b ReadEnd c h = record { held = h; does = tt }
 read_straight t b ReadFailed c h = record { held = h; does = tt }
 
 cut_straight : (t : Terms) (a : Answers) (k : ℕ) (x : Next) (c : Conn) → 0 < t.worker_num → IsIdle t a → HoldsBelow t c → StraightServed t (cut_by t a k x c)
-cut_straight t a k (NextPacket b) c some idle h = pushes_straight t a k (Packet c.session c.dispatched b) true (record c { taken = c.taken + 1 }) some idle h
-cut_straight t a k NextMore c some idle h = read_straight t a.feed_starved a.read c h
-cut_straight t a k (NextStuck e) c some idle h = record { held = h; does = tt }
+cut_straight t a k (next.Packet b) c some idle h = pushes_straight t a k (Packet c.session c.dispatched b) true (record c { taken = c.taken + 1 }) some idle h
+cut_straight t a k next.More c some idle h = read_straight t a.feed_starved a.read c h
+cut_straight t a k (next.TooLong m) c some idle h = record { held = h; does = tt }
+cut_straight t a k (next.BadLength m) c some idle h = record { held = h; does = tt }
+cut_straight t a k next.OutOfMemory c some idle h = record { held = h; does = tt }
 
 end_straight : (t : Terms) (a : Answers) (k : ℕ) (e : Cause) (c : Conn) → 0 < t.worker_num → IsIdle t a → HoldsBelow t c → StraightServed t (end_by t a k e c)
 end_straight t a k e c some idle h = pick (closes t c.phase)
@@ -50,24 +63,24 @@ end_straight t a k e c some idle h = pick (closes t c.phase)
     pick true = pushes_straight t a k (Closed c.session) false c some idle h
     pick false = record { held = h; does = leaves (can_leave c) }
 
-cause_straight : (t : Terms) (fault : List (List ℕ) → Fault) (a : Answers) (k : ℕ) (o : Option Cause) (c : Conn) → 0 < t.worker_num → IsIdle t a → HoldsBelow t c → StraightServed t (cause_by t fault a k o c)
-cause_straight t fault a k None c some idle h = pick (nat_lt c.dispatched (2 ^ 64 - 1))
+cause_straight : (t : Terms) (a : Answers) (k : ℕ) (o : Option Cause) (c : Conn) → 0 < t.worker_num → IsIdle t a → HoldsBelow t c → StraightServed t (cause_by t a k o c)
+cause_straight t a k None c some idle h = pick (nat_lt c.dispatched (2 ^ 64 - 1))
   where
-    pick : (b : Bool) → StraightServed t (if b then cut_by t a k (next_of t fault a.cut_starved c) c else plain c Stays)
-    pick true = cut_straight t a k (next_of t fault a.cut_starved c) c some idle h
+    pick : (b : Bool) → StraightServed t (if b then cuts_next t a k c else plain c Stays)
+    pick true = cut_straight t a k (starve a.cut_starved (next_of (cutter t c))) c some idle h
     pick false = record { held = h; does = tt }
-cause_straight t fault a k (Some e) c some idle h = end_straight t a k e c some idle h
+cause_straight t a k (Some e) c some idle h = end_straight t a k e c some idle h
 
-open_straight : (t : Terms) (fault : List (List ℕ) → Fault) (a : Answers) (k : ℕ) (c : Conn) → 0 < t.worker_num → IsIdle t a → HoldsBelow t c → StraightServed t (open_by t fault a k c)
-open_straight t fault a k c some idle h = pick (connects t c.phase)
+open_straight : (t : Terms) (a : Answers) (k : ℕ) (c : Conn) → 0 < t.worker_num → IsIdle t a → HoldsBelow t c → StraightServed t (open_by t a k c)
+open_straight t a k c some idle h = pick (connects t c.phase)
   where
-    pick : (b : Bool) → StraightServed t (if b then pushes t a k (Connect c.session) false c else cause_by t fault a k c.cause c)
+    pick : (b : Bool) → StraightServed t (if b then pushes t a k (Connect c.session) false c else cause_by t a k c.cause c)
     pick true = pushes_straight t a k (Connect c.session) false c some idle h
-    pick false = cause_straight t fault a k c.cause c some idle h
+    pick false = cause_straight t a k c.cause c some idle h
 
-held_straight : (t : Terms) (fault : List (List ℕ) → Fault) (a : Answers) (k : ℕ) (o : Option (ℕ × Event)) (c : Conn) → c.held ≡ o → 0 < t.worker_num → IsIdle t a → HoldsBelow t c → StraightServed t (held_by t fault a k o c)
-held_straight t fault a k (Some x) c e some idle h = record { held = tt; does = subst (HeldBelow t) e h }
-held_straight t fault a k None c e some idle h = open_straight t fault a k c some idle h
+held_straight : (t : Terms) (a : Answers) (k : ℕ) (o : Option (ℕ × Event)) (c : Conn) → c.held ≡ o → 0 < t.worker_num → IsIdle t a → HoldsBelow t c → StraightServed t (held_by t a k o c)
+held_straight t a k (Some x) c e some idle h = record { held = tt; does = subst (HeldBelow t) e h }
+held_straight t a k None c e some idle h = open_straight t a k c some idle h
 
 drop_below : (t : Terms) (o : Option (ℕ × Event)) → HeldBelow t o → HeldBelow t (drop_packet o)
 drop_below t None h = h
@@ -77,12 +90,13 @@ drop_below t (Some (w, Closed s)) h = h
 drop_below t (Some (w, Finish id b)) h = h
 drop_below t (Some (w, Task v id b)) h = h
 
-flushed_below : (t : Terms) (w : Wrote) (c : Conn) → HoldsBelow t c → HoldsBelow t (flushed w c)
+flushed_below : (t : Terms) (w : LinkWrite) (c : Conn) → HoldsBelow t c → HoldsBelow t (flushed w c)
 flushed_below t w c h = pick (is_hard c.cause)
   where
-    written : (v : Wrote) → HoldsBelow t (wrote v c)
-    written (WroteBytes k) = h
-    written WriteFailed = h
+    written : (v : LinkWrite) → HoldsBelow t (wrote v c)
+    written (writing.Took k) = h
+    written writing.NotYet = h
+    written writing.Failed = h
 
     some : (us : List ℕ) → HoldsBelow t (flushed_some w us c)
     some [] = h
@@ -102,8 +116,8 @@ tidied_below t a c h = pick (drops d.cause)
     pick true = drop_below t (flushed a.write c).held (flushed_below t a.write c h)
     pick false = flushed_below t a.write c h
 
-serve_straight : (t : Terms) (fault : List (List ℕ) → Fault) (a : Answers) (k : ℕ) (c : Conn) → 0 < t.worker_num → IsIdle t a → HoldsBelow t c → StraightServed t (serve t fault a k c)
-serve_straight t fault a k c some idle h = held_straight t fault a k (tidied a c).held (tidied a c) refl some idle (tidied_below t a c h)
+serve_straight : (t : Terms) (a : Answers) (k : ℕ) (c : Conn) → 0 < t.worker_num → IsIdle t a → HoldsBelow t c → StraightServed t (serve t a k c)
+serve_straight t a k c some idle h = held_straight t a k (tidied a c).held (tidied a c) refl some idle (tidied_below t a c h)
 
 -- changes of all connections
 map_below : (t : Terms) (f : Conn → Conn) → ((c : Conn) → HoldsBelow t c → HoldsBelow t (f c)) → (cs : List Conn) → Each (HoldsBelow t) cs → Each (HoldsBelow t) (map f cs)
@@ -202,13 +216,13 @@ back_below t Nothing m r b h = h
 back_below t Rest m r b h = h
 back_below t Finished m r b h = h
 
-pub settled_below : (t : Terms) (starved : Bool) (got : Got) (r : Reactor) → AsksBelow t r.last → Each (HoldsBelow t) (all r) → Each (HoldsBelow t) (all (settled t starved got r))
+pub settled_below : (t : Terms) (starved : Bool) (got : Got Message) (r : Reactor) → AsksBelow t r.last → Each (HoldsBelow t) (all r) → Each (HoldsBelow t) (all (settled t starved got r))
 settled_below t starved Start r b h = h
 settled_below t starved (Took m) r b h = msg_below t starved m (record r { empty = false }) h
 settled_below t starved Empty r b h = h
 settled_below t starved Pushed r b h = pushed_below t r.last r h
 settled_below t starved (Full m) r b h = back_below t r.last m r b h
-settled_below t starved GotNothing r b h = h
+settled_below t starved gots.Nothing r b h = h
 
 -- what is chosen
 turned_below : (t : Terms) (done cs : List Conn) (r : Reactor) → Each (HoldsBelow t) (done ++ cs) → Each (HoldsBelow t) (all (turned done cs r))
@@ -241,13 +255,13 @@ ends_below t pushed r p h = pick (nat_lt 0 r.ends) (nat_lt r.given t.worker_num)
     pick true false e false = record { pushed_is = p; held = h; asks = tt }
     pick false y e z = record { pushed_is = p; held = h; asks = tt }
 
-serves_below : (t : Terms) (fault : List (List ℕ) → Fault) (a : Answers) (pushed : Mail) (r : Reactor) → 0 < t.worker_num → IsIdle t a → Each (ToWorker t) pushed → (next : List Conn) → r.next ≡ next → Each (HoldsBelow t) (all r) → Straight t pushed (serves t fault a next r)
-serves_below t fault a pushed r some idle p [] e h = ends_below t pushed r p h
-serves_below t fault a pushed r some idle p (c ∷ cs) e h =
-    let v : Served = serve t fault a r.round c in
+serves_below : (t : Terms) (a : Answers) (pushed : Mail) (r : Reactor) → 0 < t.worker_num → IsIdle t a → Each (ToWorker t) pushed → (next : List Conn) → r.next ≡ next → Each (HoldsBelow t) (all r) → Straight t pushed (serves t a next r)
+serves_below t a pushed r some idle p [] e h = ends_below t pushed r p h
+serves_below t a pushed r some idle p (c ∷ cs) e h =
+    let v : Served = serve t a r.round c in
     let front : Each (HoldsBelow t) r.done = each_left (HoldsBelow t) r.done r.next h in
     let back : Each (HoldsBelow t) (c ∷ cs) = subst (Each (HoldsBelow t)) e (each_right (HoldsBelow t) r.done r.next h) in
-    let s : StraightServed t v = serve_straight t fault a r.round c some idle back.0 in
+    let s : StraightServed t v = serve_straight t a r.round c some idle back.0 in
     served_below t a (writes a.write c) pushed r.done cs v.conn v.does (record r { round = counted v.cuts r.round }) refl p
       (each_append (HoldsBelow t) (r.done ++ v.conn ∷ []) cs (each_append (HoldsBelow t) r.done (v.conn ∷ []) front (s.held, tt)) back.1)
       (each_append (HoldsBelow t) r.done cs front back.1) s.does
@@ -256,12 +270,12 @@ takes_next : (t : Terms) (pushed : Mail) (r : Reactor) → Each (ToWorker t) pus
 takes_next t pushed r p h true = record { pushed_is = p; held = each_below t stops (λ c k. k) r h; asks = tt }
 takes_next t pushed r p h false = record { pushed_is = p; held = h; asks = tt }
 
-chosen_below : (t : Terms) (fault : List (List ℕ) → Fault) (a : Answers) (pushed : Mail) (r : Reactor) → 0 < t.worker_num → IsIdle t a → Each (ToWorker t) pushed → Each (HoldsBelow t) (all r) → (ask : Ask) → Straight t pushed (chosen t fault a ask r)
-chosen_below t fault a pushed r some idle p h Take = serves_below t fault a pushed r some idle p r.next refl h
-chosen_below t fault a pushed r some idle p h (Push w m) = takes_next t pushed r p h a.stop
-chosen_below t fault a pushed r some idle p h Nothing = takes_next t pushed r p h a.stop
-chosen_below t fault a pushed r some idle p h Rest = takes_next t pushed r p h a.stop
-chosen_below t fault a pushed r some idle p h Finished = takes_next t pushed r p h a.stop
+chosen_below : (t : Terms) (a : Answers) (pushed : Mail) (r : Reactor) → 0 < t.worker_num → IsIdle t a → Each (ToWorker t) pushed → Each (HoldsBelow t) (all r) → (ask : Ask) → Straight t pushed (chosen t a ask r)
+chosen_below t a pushed r some idle p h Take = serves_below t a pushed r some idle p r.next refl h
+chosen_below t a pushed r some idle p h (Push w m) = takes_next t pushed r p h a.stop
+chosen_below t a pushed r some idle p h Nothing = takes_next t pushed r p h a.stop
+chosen_below t a pushed r some idle p h Rest = takes_next t pushed r p h a.stop
+chosen_below t a pushed r some idle p h Finished = takes_next t pushed r p h a.stop
 
-pub turn_below : (t : Terms) (fault : List (List ℕ) → Fault) (starved : Bool) (a : Answers) (got : Got) (pushed : Mail) (r : Reactor) → 0 < t.worker_num → IsIdle t a → Each (ToWorker t) pushed → Each (HoldsBelow t) (all r) → AsksBelow t r.last → Straight t pushed (turn t fault starved a got r)
-turn_below t fault starved a got pushed r some idle p h b = chosen_below t fault a pushed (settled t starved got r) some idle p (settled_below t starved got r b h) r.last
+pub turn_below : (t : Terms) (starved : Bool) (a : Answers) (got : Got Message) (pushed : Mail) (r : Reactor) → 0 < t.worker_num → IsIdle t a → Each (ToWorker t) pushed → Each (HoldsBelow t) (all r) → AsksBelow t r.last → Straight t pushed (turn t starved a got r)
+turn_below t starved a got pushed r some idle p h b = chosen_below t a pushed (settled t starved got r) some idle p (settled_below t starved got r b h) r.last

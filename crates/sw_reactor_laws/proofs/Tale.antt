@@ -3,6 +3,10 @@ use Rattle.std.proofs.Common.{◌≡◌, ℕ, ◌+◌, ◌<◌, ◌≤◌, ◌==
 use Rattle.std.proofs.lemmas.Bool.Decides.{nat_tests}
 use Rattle.std.proofs.lemmas.List.{take-append-le}
 use Rattle.std.proofs.lemmas.Option.{slice_get_within}
+use Rattle.sw_conn.specs.declared.conn.Phase.{Phase}
+use Rattle.sw_conn.specs.declared.conn.Phase.TheVariants.{Coming, Open, Closing}
+use Rattle.sw_conn.specs.Modes.{bound}
+use Rattle.sw_conn.specs.Conn.{drop_packet}
 use Rattle.sw_lists.specs.Lists.{collect, IsPrefix, Each, when}
 use Rattle.sw_lists.proofs.Lists.{eq_same, eq_other, each_append, each_left, each_right, prefix_length}
 use Rattle.sw_step.specs.declared.actor.ActorId.{ActorId}
@@ -16,7 +20,6 @@ use Rattle.sw_past.specs.Messages.{Message, FreshMsg, SendMsg, CloseMsg, ResetMs
 use Rattle.sw_past.specs.Past.{Mail, bare}
 use Rattle.sw_past.specs.Views.{story_in, due, due_in}
 use Rattle.sw_join.specs.Aims.{packets_from, story}
-use Rattle.sw_reactor_laws.specs.Conn.{Phase, Coming, Open, Closing, bound, drop_packet}
 use Rattle.sw_reactor_laws.specs.Quiet.{told_by, side_of, IsSided, IsAimed, HasCause, IsPhase, IsNext, IsReady, IsHeld, Tale, Grows, IsOf}
 use Rattle.sw_reactor_laws.proofs.Flow.{more_of}
 

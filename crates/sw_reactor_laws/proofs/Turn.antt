@@ -1,5 +1,8 @@
 -- A turn keeps a reactor quiet: what it settles, and what it asks for, whatever the pipe answers.
-use Rattle.std.proofs.Common.{◌≡◌, ℕ, ◌+◌, ◌<◌, ◌==◌, Bool, true, false, nat_lt, if◌then◌else◌, List, [], ◌∷◌, ◌++◌, length, refl, ap, ◌∙◌, sym, subst, append-nil, append_assoc, Some}
+use Rattle.std.proofs.Common.{◌≡◌, ℕ, ◌+◌, ◌<◌, ◌==◌, Bool, true, false, nat_lt, if◌then◌else◌, List, [], ◌∷◌, ◌++◌, length, refl, ap, ◌∙◌, sym, subst, append-nil, append_assoc, Some, map}
+use Rattle.sw_conn.specs.Causes.{is_hard}
+use Rattle.sw_conn.specs.Conn.{set_soft, set_hard}
+use Rattle.sw_data.specs.declared.messages.Got.{Got}
 use Rattle.sw_lists.specs.Lists.{collect, Each}
 use Rattle.sw_lists.specs.Perm.{Perm, Nil}
 use Rattle.sw_lists.proofs.Lists.{each_left, perm_sym, each_more}
@@ -12,8 +15,8 @@ use Rattle.sw_past.specs.Messages.{Message, FreshMsg, SendMsg, CloseMsg, ResetMs
 use Rattle.sw_past.specs.Past.{Mail, bare}
 use Rattle.sw_past.specs.Views.{fresh_in}
 use Rattle.sw_past.specs.Routes.{IsFair}
-use Rattle.sw_reactor_laws.specs.Conn.{Conn, Answers, Fault, is_hard, set_soft, set_hard, sent, takes, stops, noted, holds, at_event, writes, Does, Pushes, Moves, Stays, Leaves, serve, over_link}
-use Rattle.sw_reactor_laws.specs.Reactor.{Reactor, Ask, Take, Push, Nothing, Rest, Finished, Got, all, map, each_conn, settled, settled_msg, turned, rest_by, stayed, served_by, counted, ends_by, serves, chosen, turn, started}
+use Rattle.sw_reactor_laws.specs.Conn.{Conn, Answers, sent, takes, stops, noted, holds, at_event, writes, Does, Pushes, Moves, Stays, Leaves, serve, over_link}
+use Rattle.sw_reactor_laws.specs.Reactor.{Reactor, Ask, Take, Push, Nothing, Rest, Finished, all, each_conn, settled, settled_msg, turned, rest_by, stayed, served_by, counted, ends_by, serves, chosen, turn, started}
 use Rattle.sw_reactor_laws.specs.Quiet.{QuietConn, QuietLists, Quiet, AfterTake, QuietAfter, IsOf, ServedBy, Grows, session_in, session_over, sessions}
 use Rattle.sw_reactor_laws.specs.Modes.{ModeLaws, IsReleased}
 use Rattle.sw_reactor_laws.specs.Runs.{IsHonest}
@@ -166,24 +169,24 @@ ends_quiet t a w m n small took pushed r q = pick (nat_lt 0 r.ends) (nat_lt r.gi
     pick true false false = q
     pick false y z = q
 
-serves_quiet : (t : Terms) (a : Aim) (w : Ending) → ModeLaws t a w → (fault : List (List ℕ) → Fault) (ans : Answers) → 0 < t.worker_num → Grows t → (n : ℕ) → n < t.reactor_num → (took pushed : Mail) (r : Reactor) → IsHonest t fault ans r → Quiet t a w n took pushed r → (next : List Conn) → r.next ≡ next → QuietAfter t a w n took pushed (serves t fault ans next r)
-serves_quiet t a w m fault ans some grows n small took pushed r honest q [] e = ends_quiet t a w m n small took pushed r q
-serves_quiet t a w m fault ans some grows n small took pushed r honest q (c ∷ cs) e =
+serves_quiet : (t : Terms) (a : Aim) (w : Ending) → ModeLaws t a w → (ans : Answers) → 0 < t.worker_num → Grows t → (n : ℕ) → n < t.reactor_num → (took pushed : Mail) (r : Reactor) → IsHonest t ans r → Quiet t a w n took pushed r → (next : List Conn) → r.next ≡ next → QuietAfter t a w n took pushed (serves t ans next r)
+serves_quiet t a w m ans some grows n small took pushed r honest q [] e = ends_quiet t a w m n small took pushed r q
+serves_quiet t a w m ans some grows n small took pushed r honest q (c ∷ cs) e =
     let lists : QuietLists t a w n took pushed (r.done ++ c ∷ cs) r.over = subst (λ (ds : List Conn). QuietLists t a w n took pushed (r.done ++ ds) r.over) e q in
     let front : QuietLists t a w n took pushed (c ∷ (r.done ++ cs)) r.over = in_front t a w n took pushed r.done cs c r.over lists in
-    let v = serve_right t fault n took pushed ans r.round c some honest.idle grows front.conns.0 in
-    served_quiet t a w m n took pushed ans (writes ans.write c) c (serve t fault ans r.round c).conn cs (serve t fault ans r.round c).does (record r { round = counted (serve t fault ans r.round c).cuts r.round }) lists v.session v.does (honest.released c cs e)
+    let v = serve_right t n took pushed ans r.round c some honest.idle grows front.conns.0 in
+    served_quiet t a w m n took pushed ans (writes ans.write c) c (serve t ans r.round c).conn cs (serve t ans r.round c).does (record r { round = counted (serve t ans r.round c).cuts r.round }) lists v.session v.does (honest.released c cs e)
 
-chosen_quiet : (t : Terms) (a : Aim) (w : Ending) → ModeLaws t a w → (fault : List (List ℕ) → Fault) (ans : Answers) → 0 < t.worker_num → Grows t → (n : ℕ) → n < t.reactor_num → (took pushed : Mail) (r : Reactor) → IsHonest t fault ans r → Quiet t a w n took pushed r → (ask : Ask) → QuietAfter t a w n took pushed (chosen t fault ans ask r)
-chosen_quiet t a w m fault ans some grows n small took pushed r honest q Take = serves_quiet t a w m fault ans some grows n small took pushed r honest q r.next refl
-chosen_quiet t a w m fault ans some grows n small took pushed r honest q (Push v x) = asks_take t a w n took pushed r q ans.stop
-chosen_quiet t a w m fault ans some grows n small took pushed r honest q Nothing = asks_take t a w n took pushed r q ans.stop
-chosen_quiet t a w m fault ans some grows n small took pushed r honest q Rest = asks_take t a w n took pushed r q ans.stop
-chosen_quiet t a w m fault ans some grows n small took pushed r honest q Finished = asks_take t a w n took pushed r q ans.stop
+chosen_quiet : (t : Terms) (a : Aim) (w : Ending) → ModeLaws t a w → (ans : Answers) → 0 < t.worker_num → Grows t → (n : ℕ) → n < t.reactor_num → (took pushed : Mail) (r : Reactor) → IsHonest t ans r → Quiet t a w n took pushed r → (ask : Ask) → QuietAfter t a w n took pushed (chosen t ans ask r)
+chosen_quiet t a w m ans some grows n small took pushed r honest q Take = serves_quiet t a w m ans some grows n small took pushed r honest q r.next refl
+chosen_quiet t a w m ans some grows n small took pushed r honest q (Push v x) = asks_take t a w n took pushed r q ans.stop
+chosen_quiet t a w m ans some grows n small took pushed r honest q Nothing = asks_take t a w n took pushed r q ans.stop
+chosen_quiet t a w m ans some grows n small took pushed r honest q Rest = asks_take t a w n took pushed r q ans.stop
+chosen_quiet t a w m ans some grows n small took pushed r honest q Finished = asks_take t a w n took pushed r q ans.stop
 
 -- a whole turn
-pub turn_quiet : (t : Terms) (a : Aim) (w : Ending) → ModeLaws t a w → (fault : List (List ℕ) → Fault) (starved : Bool) (ans : Answers) (got : Got) → 0 < t.worker_num → Grows t → (n : ℕ) → n < t.reactor_num → (took pushed : Mail) (r : Reactor) → IsHonest t fault ans (settled t starved got r) → Quiet t a w n took pushed (settled t starved got r) → QuietAfter t a w n took pushed (turn t fault starved ans got r)
-turn_quiet t a w m fault starved ans got some grows n small took pushed r honest q = chosen_quiet t a w m fault ans some grows n small took pushed (settled t starved got r) honest q r.last
+pub turn_quiet : (t : Terms) (a : Aim) (w : Ending) → ModeLaws t a w → (starved : Bool) (ans : Answers) (got : Got Message) → 0 < t.worker_num → Grows t → (n : ℕ) → n < t.reactor_num → (took pushed : Mail) (r : Reactor) → IsHonest t ans (settled t starved got r) → Quiet t a w n took pushed (settled t starved got r) → QuietAfter t a w n took pushed (turn t starved ans got r)
+turn_quiet t a w m starved ans got some grows n small took pushed r honest q = chosen_quiet t a w m ans some grows n small took pushed (settled t starved got r) honest q r.last
 
 pub started_quiet : (t : Terms) (a : Aim) (w : Ending) (n : ℕ) → Quiet t a w n [] [] started
 started_quiet t a w n = record { conns = tt; over = tt; distinct = tt; stranger = λ s h. refl; routed = tt; came = Nil }

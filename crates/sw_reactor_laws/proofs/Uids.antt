@@ -2,6 +2,9 @@
 use Rattle.std.proofs.Common.{◌≡◌, ◌⊎◌, ℕ, ◌+◌, ◌<◌, ◌≤◌, ◌==◌, Bool, true, false, nat_lt, if◌then◌else◌, List, [], ◌∷◌, ◌++◌, length, take, drop, refl, ap, ◌∙◌, sym, subst, append-nil, arith, Option, Some, inl, inr, zero, suc}
 use Rattle.std.proofs.lemmas.Bool.Decides.{nat_tests}
 use Rattle.std.proofs.lemmas.List.{take-append-drop}
+use Rattle.sw_conn.specs.declared.conn.Phase.{Phase}
+use Rattle.sw_conn.specs.declared.conn.Phase.TheVariants.{Coming, Open, Closing}
+use Rattle.sw_conn.specs.Modes.{bound}
 use Rattle.sw_lists.specs.Lists.{collect, IsPrefix, Each, when}
 use Rattle.sw_lists.proofs.Lists.{eq_same, eq_other, collect-append, collect-collect, equal_or_not}
 use Rattle.sw_step.specs.declared.actor.ActorId.{ActorId}
@@ -18,7 +21,7 @@ use Rattle.sw_past.specs.Views.{story_in}
 use Rattle.sw_join.specs.Laws.{streams}
 use Rattle.sw_join.specs.Aims.{packets_from, story, UidAim, UidEnd}
 use Rattle.sw_join.proofs.Routes.{is_same, is_refl}
-use Rattle.sw_reactor_laws.specs.Conn.{Phase, Coming, Open, Closing, Conn, bound, account, over_link}
+use Rattle.sw_reactor_laws.specs.Conn.{Conn, account, over_link}
 use Rattle.sw_reactor_laws.specs.Quiet.{told_by, side_of, IsAimed, Tale, TaleOf}
 use Rattle.sw_reactor_laws.specs.Modes.{ModeLaws, IsReleased, shown_link, back_link}
 use Rattle.sw_reactor_laws.proofs.Flow.{more_of}

@@ -1,28 +1,34 @@
--- One connection of a reactor: what a taken message, a pipe call and a serve make of it.
-use Rattle.std.specs.Prelude.{ℕ, ◌+◌, ◌-◌, ◌%◌, ◌^◌, ◌==◌, Bool, true, false, nat_lt, if◌then◌else◌, List, [], ◌∷◌, ◌++◌, length, take, drop, slice_get, Option, Some, None}
-use Rattle.sw_record.specs.Words.{Event, Connect, Packet, Closed, Finish, Task, Cause, PeerEnd, ServerClose, ResetCause, ReadFault, WriteFault, TooLong, BadLength, Overflow, Stop, NoSlot, NumbersSpent, NoMemory, Ended}
+-- One connection of a reactor as the table has it: what a taken message, a pipe call and a serve make of it.
+use Rattle.std.specs.Prelude.{ℕ, ◌+◌, ◌-◌, ◌%◌, ◌^◌, ◌==◌, Bool, true, false, nat_lt, if◌then◌else◌, List, [], ◌∷◌, ◌++◌, length, take, drop, Option, Some, None}
+use Rattle.sw_frame.specs.declared.next.Next.{Next}
+use Rattle.sw_frame.specs.declared.next.Next.TheVariants as next
+use Rattle.sw_frame.specs.Cutting.{Cutting, next_of}
+use Rattle.sw_link.specs.declared.link.LinkWrite.{LinkWrite}
+use Rattle.sw_link.specs.declared.link.LinkWrite.TheVariants as writing
+use Rattle.sw_link.specs.Reads.{Read, GotPiece, ReadNotYet, ReadEnd, ReadFailed}
+use Rattle.sw_conn.specs.declared.conn.Phase.{Phase}
+use Rattle.sw_conn.specs.declared.conn.Phase.TheVariants.{Coming, Open, Closing}
+use Rattle.sw_conn.specs.Modes.{bound}
+use Rattle.sw_conn.specs.Causes.{is_hard, drops}
+use Rattle.sw_conn.specs.Conn.{set_soft, set_hard, drop_packet, has_unsent}
+use Rattle.sw_record.specs.Words.{Event, Connect, Packet, Closed, Finish, Task, Cause, PeerEnd, ServerClose, ResetCause, ReadFault, WriteFault, TooLong, BadLength, Overflow, Stop, NoMemory, Ended}
 use Rattle.sw_record.specs.declared.record.LinkState.TheVariants.{Live, Over}
 use Rattle.sw_record.specs.declared.record.LinkRecord.{LinkRecord}
-use Rattle.sw_record.specs.Terms.{Terms, keeps, packets_cut}
+use Rattle.sw_record.specs.Terms.{Terms, keeps}
 use Rattle.sw_record.specs.Order.{target, side}
 use Rattle.sw_past.specs.Messages.{Message, FreshMsg, SendMsg, CloseMsg, ResetMsg, Bye, EventMsg, OverMsg, NoMore}
 
-pub data Phase : Type 0 where
-  -- Connect isn't pushed, and in modes 1 and 3 never is
-  Coming : Phase
-  Open : Phase
-  -- Closed was pushed
-  Closing : Phase
-
+-- a connection of the table: what its record shows, and what its reactor keeps of it
 pub record Conn : Type 0 where
   pub ip : ℕ
   pub session : ℕ
+  -- the pieces that were read and the bytes that were written
   pub pieces : List (List ℕ)
   pub written : List ℕ
   pub unsent : List ℕ
   -- the packets that were taken from the cutter
   pub taken : ℕ
-  -- a message that its worker's pipe had no room for
+  -- an event that its worker's pipe had no room for
   pub held : Option (ℕ × Event)
   -- the awaited events without their Byes
   pub awaited : ℕ
@@ -34,24 +40,14 @@ pub record Conn : Type 0 where
   pub phase : Phase
 
 -- what the ports answer in a turn
-pub data Wrote : Type 0 where
-  -- none is 'not yet'
-  WroteBytes : ℕ → Wrote
-  WriteFailed : Wrote
-
-pub data Read : Type 0 where
-  GotPiece : List ℕ → Read
-  ReadNotYet : Read
-  ReadEnd : Read
-  ReadFailed : Read
-
 pub record Answers : Type 0 where
+  -- the stop word
   pub stop : Bool
   -- the uid that a look shows, 0 for none and for a word of another session
   pub look : ℕ
   -- the first idle worker from a position
   pub idle : Option ℕ
-  pub write : Wrote
+  pub write : LinkWrite
   pub read : Read
   -- the cutter found no memory for a packet, and for a piece
   pub cut_starved : Bool
@@ -59,43 +55,7 @@ pub record Answers : Type 0 where
   -- the uid that the release of a ticket answers
   pub released : ℕ
 
--- what stands behind the packets of these pieces
-pub data Fault : Type 0 where
-  Fine : Fault
-  Long : ℕ → Fault
-  Bad : ℕ → Fault
-
-abbrev pub bound : ℕ → Bool
-bound m = if keeps m then true else m == 5
-
--- causes
-abbrev pub hard : Cause → Bool
-hard PeerEnd = false
-hard ServerClose = false
-hard ResetCause = true
-hard ReadFault = false
-hard WriteFault = true
-hard (TooLong n) = false
-hard (BadLength n) = false
-hard (Overflow n) = true
-hard Stop = true
-hard NoSlot = false
-hard NumbersSpent = false
-hard NoMemory = true
-
-abbrev pub is_hard : Option Cause → Bool
-is_hard None = false
-is_hard (Some e) = hard e
-
-abbrev pub set_soft : Cause → Option Cause → Option Cause
-set_soft e None = Some e
-set_soft e (Some d) = Some d
-
-abbrev pub set_hard : Cause → Option Cause → Option Cause
-set_hard e None = Some e
-set_hard e (Some d) = if hard d then Some d else Some e
-
--- a connection that was just taken
+-- a connection that was just taken, with memory for its framing or without
 abbrev pub fresh : Bool → ℕ → ℕ → Conn
 fresh starved ip s =
     record {
@@ -114,16 +74,18 @@ fresh starved ip s =
       phase = Coming;
     }
 
--- what it makes of a message with its number
+-- a send is appended, unless it would make more unsent bytes than there may be, or finds no memory
 abbrev pub sent_open : Terms → Bool → List ℕ → ℕ → Conn → Conn
 sent_open t starved b n c =
     if nat_lt t.buffer_size n
     then record c { cause = Some (Overflow n) }
     else (if starved then record c { cause = Some NoMemory } else record c { unsent = c.unsent ++ b })
 
+-- behind a hard cause it is dropped
 abbrev pub sent : Terms → Bool → List ℕ → Conn → Conn
 sent t starved b c = if is_hard c.cause then c else sent_open t starved b (length c.unsent + length b) c
 
+-- what it makes of a message that was taken, by the message's number
 abbrev pub takes : Terms → Bool → Message → Conn → Conn
 takes t starved (FreshMsg ip s) c = c
 takes t starved (SendMsg s b) c = if c.session == s then sent t starved b c else c
@@ -134,6 +96,7 @@ takes t starved (EventMsg e) c = c
 takes t starved (OverMsg id) c = c
 takes t starved NoMore c = c
 
+-- the server ends
 abbrev pub stops : Conn → Conn
 stops c = record c { cause = set_hard Stop c.cause }
 
@@ -149,7 +112,7 @@ noted t (Task w id b) c = c
 abbrev pub holds : ℕ → Event → Conn → Conn
 holds w e c = record c { held = Some (w, e) }
 
--- the connection whose event this is
+-- the connection whose event this is is changed so
 abbrev pub at_event : (Conn → Conn) → Event → Conn → Conn
 at_event f (Connect s) c = if c.session == s then f c else c
 at_event f (Packet s i b) c = if c.session == s then f c else c
@@ -157,45 +120,34 @@ at_event f (Closed s) c = if c.session == s then f c else c
 at_event f (Finish id b) c = c
 at_event f (Task w id b) c = c
 
--- a serve, point 1
-abbrev pub drop_packet : Option (ℕ × Event) → Option (ℕ × Event)
-drop_packet None = None
-drop_packet (Some (w, Connect s)) = Some (w, Connect s)
-drop_packet (Some (w, Packet s i b)) = None
-drop_packet (Some (w, Closed s)) = Some (w, Closed s)
-drop_packet (Some (w, Finish id b)) = Some (w, Finish id b)
-drop_packet (Some (w, Task v id b)) = Some (w, Task v id b)
+-- a serve, point 1: what a write makes of it
+abbrev pub wrote : LinkWrite → Conn → Conn
+wrote (writing.Took k) c = record c { written = c.written ++ take k c.unsent; unsent = drop k c.unsent }
+wrote writing.NotYet c = c
+wrote writing.Failed c = record c { cause = Some WriteFault }
 
-abbrev pub wrote : Wrote → Conn → Conn
-wrote (WroteBytes k) c = record c { written = c.written ++ take k c.unsent; unsent = drop k c.unsent }
-wrote WriteFailed c = record c { cause = Some WriteFault }
-
-abbrev pub flushed_some : Wrote → List ℕ → Conn → Conn
+-- one write, where bytes are unsent
+abbrev pub flushed_some : LinkWrite → List ℕ → Conn → Conn
 flushed_some w [] c = c
 flushed_some w (b ∷ bs) c = wrote w c
 
-abbrev pub flushed : Wrote → Conn → Conn
+-- and no cause is hard
+abbrev pub flushed : LinkWrite → Conn → Conn
 flushed w c = if is_hard c.cause then c else flushed_some w c.unsent c
 
 -- a hard cause drops unsent bytes and a held packet, ServerClose a held packet
-abbrev pub drops : Option Cause → Bool
-drops (Some ServerClose) = true
-drops e = is_hard e
-
 abbrev pub cleared : Conn → Conn
 cleared c = record c { unsent = (if is_hard c.cause then [] else c.unsent); held = (if drops c.cause then drop_packet c.held else c.held) }
 
 -- whether a write moved something
-abbrev pub some_bytes : Wrote → Bool
-some_bytes (WroteBytes k) = nat_lt 0 k
-some_bytes WriteFailed = true
+abbrev pub moves_some : LinkWrite → Bool
+moves_some (writing.Took k) = true
+moves_some writing.NotYet = false
+moves_some writing.Failed = true
 
-abbrev pub has_unsent : List ℕ → Bool
-has_unsent [] = false
-has_unsent (b ∷ bs) = true
-
-abbrev pub writes : Wrote → Conn → Bool
-writes w c = if is_hard c.cause then false else (if has_unsent c.unsent then some_bytes w else false)
+-- whether there was a write, and it moved something
+abbrev pub writes : LinkWrite → Conn → Bool
+writes w c = if is_hard c.cause then false else (if has_unsent c.unsent then moves_some w else false)
 
 -- what a serve comes to
 pub data Does : Type 0 where
@@ -204,109 +156,126 @@ pub data Does : Type 0 where
   Stays : Does
   Leaves : Cause → Does
 
+-- the connection behind a serve, what the serve comes to, whether a packet was taken from the cutter, and whether it read
 pub record Served : Type 0 where
   pub conn : Conn
   pub does : Does
-  -- a packet was taken from the cutter
   pub cuts : Bool
+  pub reads : Bool
 
--- the look of mode 5
+-- the look of mode 5: a uid once seen is kept, with the packets that were pushed before
 abbrev pub sees : ℕ → Conn → Conn
 sees look c = if c.uid == 0 then record c { uid = look; split = c.dispatched } else c
 
+-- only mode 5 looks
 abbrev pub looked : Terms → Answers → Conn → Conn
 looked t a c = if t.mode == 5 then sees a.look c else c
 
--- the worker for a round position
+-- an idle worker, or else the one whose turn it is
 abbrev pub idle_or : Option ℕ → ℕ → ℕ
 idle_or None k = k
 idle_or (Some j) k = j
 
+-- the worker for a round position, modes 1 and 3
 abbrev pub round_for : Terms → Option ℕ → ℕ → ℕ
 round_for t idle k = if t.mode == 3 then idle_or idle (k % t.worker_num) else k % t.worker_num
 
+-- the worker of an event
 abbrev pub place : Terms → Answers → ℕ → Conn → ℕ
 place t a k c = if keeps t.mode then target t c.session c.ip else (if t.mode == 5 then side t c.session c.uid else round_for t a.idle k)
 
+-- an event is to be pushed
 abbrev pub pushes : Terms → Answers → ℕ → Event → Bool → Conn → Served
-pushes t a k e cuts c = record { conn = looked t a c; does = Pushes (place t a k (looked t a c)) e; cuts = cuts }
+pushes t a k e cuts c = record { conn = looked t a c; does = Pushes (place t a k (looked t a c)) e; cuts = cuts; reads = false }
 
+-- none is
 abbrev pub plain : Conn → Does → Served
-plain c d = record { conn = c; does = d; cuts = false }
+plain c d = record { conn = c; does = d; cuts = false; reads = false }
 
--- the cutter
-pub data Next : Type 0 where
-  NextPacket : List ℕ → Next
-  NextMore : Next
-  NextStuck : Cause → Next
+-- behind a read
+abbrev pub after_read : Conn → Does → Served
+after_read c d = record { conn = c; does = d; cuts = false; reads = true }
 
-abbrev pub behind : Fault → Next
-behind Fine = NextMore
-behind (Long n) = NextStuck (TooLong n)
-behind (Bad n) = NextStuck (BadLength n)
+-- want of memory may stand in place of a packet
+abbrev pub starve : Bool → Next → Next
+starve starved (next.Packet b) = if starved then next.OutOfMemory else next.Packet b
+starve starved next.More = next.More
+starve starved (next.TooLong n) = next.TooLong n
+starve starved (next.BadLength n) = next.BadLength n
+starve starved next.OutOfMemory = next.OutOfMemory
 
-abbrev pub next_at : Fault → Option (List ℕ) → Next
-next_at f (Some b) = NextPacket b
-next_at f None = behind f
+-- its cutter: the pieces that were read, and the packets that were taken
+abbrev pub cutter : Terms → Conn → Cutting
+cutter t c = record { framing = t.framing; pieces = c.pieces; given = c.taken }
 
-abbrev pub next_of : Terms → (List (List ℕ) → Fault) → Bool → Conn → Next
-next_of t fault starved c = if starved then NextStuck NoMemory else next_at (fault c.pieces) (slice_get (packets_cut t c.pieces) c.taken)
+-- points 4 to 6: a read
+abbrev pub read_by : Bool → Read → Conn → Served
+read_by starved (GotPiece p) c = after_read (record c { pieces = c.pieces ++ p ∷ []; cause = (if starved then Some NoMemory else None) }) Moves
+read_by starved ReadNotYet c = after_read c Stays
+read_by starved ReadEnd c = after_read (record c { cause = Some PeerEnd }) Moves
+read_by starved ReadFailed c = after_read (record c { cause = Some ReadFault }) Moves
+
+-- points 4 to 6, by the cutter's answer
+abbrev pub cut_by : Terms → Answers → ℕ → Next → Conn → Served
+cut_by t a k (next.Packet b) c = pushes t a k (Packet c.session c.dispatched b) true (record c { taken = c.taken + 1 })
+cut_by t a k next.More c = read_by a.feed_starved a.read c
+cut_by t a k (next.TooLong n) c = plain (record c { cause = Some (TooLong n) }) Moves
+cut_by t a k (next.BadLength n) c = plain (record c { cause = Some (BadLength n) }) Moves
+cut_by t a k next.OutOfMemory c = plain (record c { cause = Some NoMemory }) Moves
 
 -- points 4 to 6
-abbrev pub read_by : Bool → Read → Conn → Served
-read_by starved (GotPiece p) c = plain (record c { pieces = c.pieces ++ p ∷ []; cause = (if starved then Some NoMemory else None) }) Moves
-read_by starved ReadNotYet c = plain c Stays
-read_by starved ReadEnd c = plain (record c { cause = Some PeerEnd }) Moves
-read_by starved ReadFailed c = plain (record c { cause = Some ReadFault }) Moves
+abbrev pub cuts_next : Terms → Answers → ℕ → Conn → Served
+cuts_next t a k c = cut_by t a k (starve a.cut_starved (next_of (cutter t c))) c
 
-abbrev pub cut_by : Terms → Answers → ℕ → Next → Conn → Served
-cut_by t a k (NextPacket b) c = pushes t a k (Packet c.session c.dispatched b) true (record c { taken = c.taken + 1 })
-cut_by t a k NextMore c = read_by a.feed_starved a.read c
-cut_by t a k (NextStuck e) c = plain (record c { cause = Some e }) Moves
-
--- points 7 to 9
+-- Closed is still to be pushed
 abbrev pub closes : Terms → Phase → Bool
 closes t Coming = bound t.mode
 closes t Open = bound t.mode
 closes t Closing = false
 
+-- nothing is awaited, and after a soft cause all is written
 abbrev pub can_leave : Conn → Bool
 can_leave c = if c.awaited == 0 then (if is_hard c.cause then true else (if has_unsent c.unsent then false else true)) else false
 
+-- points 7 to 9
 abbrev pub end_by : Terms → Answers → ℕ → Cause → Conn → Served
 end_by t a k e c =
     if closes t c.phase
     then pushes t a k (Closed c.session) false c
     else plain c (if can_leave c then Leaves e else Stays)
 
-abbrev pub cause_by : Terms → (List (List ℕ) → Fault) → Answers → ℕ → Option Cause → Conn → Served
-cause_by t fault a k None c = if nat_lt c.dispatched (2 ^ 64 - 1) then cut_by t a k (next_of t fault a.cut_starved c) c else plain c Stays
-cause_by t fault a k (Some e) c = end_by t a k e c
+-- points 4 to 9: without a cause, as long as there are numbers for packets, the cutter is asked
+abbrev pub cause_by : Terms → Answers → ℕ → Option Cause → Conn → Served
+cause_by t a k None c = if nat_lt c.dispatched (2 ^ 64 - 1) then cuts_next t a k c else plain c Stays
+cause_by t a k (Some e) c = end_by t a k e c
 
--- point 3
+-- Connect is still to be pushed
 abbrev pub connects : Terms → Phase → Bool
 connects t Coming = bound t.mode
 connects t Open = false
 connects t Closing = false
 
-abbrev pub open_by : Terms → (List (List ℕ) → Fault) → Answers → ℕ → Conn → Served
-open_by t fault a k c =
+-- point 3
+abbrev pub open_by : Terms → Answers → ℕ → Conn → Served
+open_by t a k c =
     if connects t c.phase
     then pushes t a k (Connect c.session) false c
-    else cause_by t fault a k c.cause c
+    else cause_by t a k c.cause c
 
--- point 2
-abbrev pub held_by : Terms → (List (List ℕ) → Fault) → Answers → ℕ → Option (ℕ × Event) → Conn → Served
-held_by t fault a k (Some h) c = plain (record c { held = None }) (Pushes h.0 h.1)
-held_by t fault a k None c = open_by t fault a k c
+-- point 2: a held event goes to the same worker
+abbrev pub held_by : Terms → Answers → ℕ → Option (ℕ × Event) → Conn → Served
+held_by t a k (Some h) c = plain (record c { held = None }) (Pushes h.0 h.1)
+held_by t a k None c = open_by t a k c
 
+-- point 1
 abbrev pub tidied : Answers → Conn → Conn
 tidied a c = cleared (flushed a.write c)
 
-abbrev pub serve : Terms → (List (List ℕ) → Fault) → Answers → ℕ → Conn → Served
-serve t fault a k c = held_by t fault a k (tidied a c).held (tidied a c)
+-- a serve, with the position of the worker whose turn it is
+abbrev pub serve : Terms → Answers → ℕ → Conn → Served
+serve t a k c = held_by t a k (tidied a c).held (tidied a c)
 
--- what it tells
+-- what is said of it
 abbrev pub account : Terms → Conn → ℕ → Cause → Ended
 account t c uid e =
     record {
@@ -319,8 +288,10 @@ account t c uid e =
       cause = e;
     }
 
+-- the link of a connection that lives
 abbrev pub live_link : Terms → Conn → LinkRecord
 live_link t c = record { ip = c.ip; state = Live (account t c c.uid PeerEnd); pieces = c.pieces; written = c.written }
 
+-- the link of one that ended
 abbrev pub over_link : Terms → Conn → ℕ → Cause → LinkRecord
 over_link t c uid e = record { ip = c.ip; state = Over (account t c uid e); pieces = c.pieces; written = c.written }

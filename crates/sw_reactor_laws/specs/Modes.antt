@@ -1,5 +1,6 @@
 -- What the law of a mode must give, by what was pushed of a connection.
 use Rattle.std.specs.Prelude.{◌≡◌, ◌⊎◌, ℕ, ◌%◌, ◌==◌, if◌then◌else◌, List, [], ◌∷◌, ◌++◌, Option, Some}
+use Rattle.sw_conn.specs.declared.conn.Phase.{Phase}
 use Rattle.sw_step.specs.declared.actor.ActorId.{ActorId}
 use Rattle.sw_record.specs.Words.{Cause, PeerEnd, Stop, Ended}
 use Rattle.sw_record.specs.declared.record.LinkState.TheVariants.{Live, Over}
@@ -8,7 +9,7 @@ use Rattle.sw_record.specs.Terms.{Terms}
 use Rattle.sw_past.specs.Messages.{Message}
 use Rattle.sw_past.specs.Past.{Mail}
 use Rattle.sw_past.specs.Views.{story_in}
-use Rattle.sw_reactor_laws.specs.Conn.{Conn, Phase, account, over_link}
+use Rattle.sw_reactor_laws.specs.Conn.{Conn, account, over_link}
 use Rattle.sw_reactor_laws.specs.Quiet.{Tale, TaleOf, IsOver}
 
 -- a live link, whatever its count shows (it is one behind where a push is not noted yet)

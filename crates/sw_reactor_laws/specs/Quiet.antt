@@ -2,6 +2,11 @@
 -- is asked for, whatever the pipe answers (QuietAfter).
 use Rattle.std.specs.Prelude.{◌≡◌, ◌⊎◌, ℕ, ◌+◌, ◌<◌, ◌≤◌, ◌==◌, Bool, true, false, nat_lt, if◌then◌else◌, List, [], ◌∷◌, ◌++◌, length, take, slice_get, Option, Some, None}
 use Rattle.std.specs.List.{concat}
+use Rattle.sw_conn.specs.declared.conn.Phase.{Phase}
+use Rattle.sw_conn.specs.declared.conn.Phase.TheVariants.{Coming, Open, Closing}
+use Rattle.sw_conn.specs.Modes.{bound}
+use Rattle.sw_conn.specs.Causes.{is_hard}
+use Rattle.sw_data.specs.declared.messages.Got.TheVariants.{Empty, Took, Pushed, Full}
 use Rattle.sw_lists.specs.Lists.{collect, IsPrefix, Each}
 use Rattle.sw_lists.specs.Perm.{Perm}
 use Rattle.sw_lists.specs.Numbers.{Distinct}
@@ -20,8 +25,8 @@ use Rattle.sw_past.specs.Views.{story_in, fresh_in, sends_in, byes_in, due_in, c
 use Rattle.sw_past.specs.Routes.{IsRouted, IsFair}
 use Rattle.sw_join.specs.Laws.{IsKept}
 use Rattle.sw_join.specs.Aims.{packets_from, story}
-use Rattle.sw_reactor_laws.specs.Conn.{Conn, Phase, Coming, Open, Closing, Answers, Served, Does, Pushes, Moves, Stays, Leaves, bound, is_hard, connects, noted, holds}
-use Rattle.sw_reactor_laws.specs.Reactor.{Reactor, Ask, Take, Push, Nothing, Rest, Finished, Empty, Took, Pushed, Full, all, settled}
+use Rattle.sw_reactor_laws.specs.Conn.{Conn, Answers, Served, Does, Pushes, Moves, Stays, Leaves, connects, noted, holds}
+use Rattle.sw_reactor_laws.specs.Reactor.{Reactor, Ask, Take, Push, Nothing, Rest, Finished, all, settled}
 use Rattle.sw_step.specs.declared.actor.ActorId.TheVariants as mail
 
 -- a send that passes the bound of unsent bytes
@@ -159,7 +164,7 @@ pub record ServedRight (t : Terms) (n : ℕ) (took pushed : Mail) (s : ℕ) (v :
 abbrev pub IsIdle : Terms → Answers → Type 0
 IsIdle t a = (j : ℕ) → a.idle ≡ Some j → j < t.worker_num
 
--- a link that was put into the Over
+-- a link that was put into its ends
 pub record QuietOver (t : Terms) (aimed : ℕ → LinkRecord → Mail → Type 0) (whole : ℕ → LinkRecord → Ended → Mail → Type 0) (took pushed : Mail) (l : LinkRecord) : Type 0 where
   pub number : ℕ
   pub session : session_of l.state ≡ Some number

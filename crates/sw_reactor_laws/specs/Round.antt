@@ -1,4 +1,4 @@
--- Mode 1: how many packets went to each worker.
+-- How many packets were pushed, and in mode 1 how many went to each worker.
 use Rattle.std.specs.Prelude.{◌≡◌, ℕ, ◌+◌, ◌≤◌, ◌==◌, if◌then◌else◌, List, [], ◌∷◌, length, Option, Some, None}
 use Rattle.sw_lists.specs.Lists.{collect}
 use Rattle.sw_step.specs.declared.actor.ActorId.TheVariants.{Worker}
@@ -45,8 +45,9 @@ cut_of t l = length (packets_cut t l.pieces)
 abbrev pub packets_at : ℕ → Mail → ℕ
 packets_at j pushed = length (collect packet_msg (of (Worker j) pushed))
 
--- with nothing on its way: no worker has more than its turns, and no turn is without a packet that was cut
+-- with nothing on its way: in mode 1 no worker has more than its turns, no turn is without a packet that was cut, and each
+-- packet that was pushed is counted with its link
 pub record Round (t : Terms) (pushed : Mail) (cs : List Conn) (ls : List LinkRecord) (k : ℕ) : Type 0 where
-  pub spread : (j : ℕ) → packets_at j pushed + sum_of (holds_at j) cs ≤ rounds t.worker_num k j
+  pub spread : t.mode ≡ 1 → (j : ℕ) → packets_at j pushed + sum_of (holds_at j) cs ≤ rounds t.worker_num k j
   pub most : k ≤ sum_of taken_of cs + sum_of (cut_of t) ls
   pub sent : length (collect packet_msg (bare pushed)) ≡ sum_of sent_of cs + total ls

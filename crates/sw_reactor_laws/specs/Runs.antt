@@ -1,5 +1,8 @@
 -- A reactor's runs: turns and, between them, pipe calls, whatever the ports and the pipes answer.
 use Rattle.std.specs.Prelude.{◌≡◌, ◌⊎◌, ℕ, ◌<◌, Bool, List, [], ◌∷◌, ◌++◌, Option, Some, None}
+use Rattle.sw_data.specs.declared.messages.Got.{Got}
+use Rattle.sw_data.specs.declared.messages.Got.TheVariants.{Start, Took, Empty, Pushed, Full}
+use Rattle.sw_data.specs.declared.messages.Got.TheVariants as gots
 use Rattle.sw_lists.specs.Lists.{Each}
 use Rattle.sw_step.specs.declared.actor.ActorId.{ActorId}
 use Rattle.sw_step.specs.declared.actor.ActorId.TheVariants.{Worker}
@@ -8,15 +11,15 @@ use Rattle.sw_record.specs.Terms.{Terms}
 use Rattle.sw_past.specs.Messages.{Message}
 use Rattle.sw_past.specs.Past.{Mail}
 use Rattle.sw_past.specs.Routes.{ToWorker}
-use Rattle.sw_reactor_laws.specs.Conn.{Conn, Answers, Fault, Does, Pushes, Moves, Stays, Leaves, serve}
-use Rattle.sw_reactor_laws.specs.Reactor.{Reactor, Ask, Take, Push, Nothing, Rest, Finished, Got, Start, Took, Empty, Pushed, Full, GotNothing, all, settled, turn, started}
+use Rattle.sw_reactor_laws.specs.Conn.{Conn, Answers, Does, Pushes, Moves, Stays, Leaves, serve}
+use Rattle.sw_reactor_laws.specs.Reactor.{Reactor, Ask, Take, Push, Nothing, Rest, Finished, all, settled, turn, started}
 use Rattle.sw_reactor_laws.specs.Quiet.{IsIdle}
 use Rattle.sw_reactor_laws.specs.Modes.{IsReleased}
 
 -- what the ports may answer in a turn: an idle worker is there, and a uid that was seen is the one that the release answers
-pub record IsHonest (t : Terms) (fault : List (List ℕ) → Fault) (a : Answers) (r : Reactor) : Type 0 where
+pub record IsHonest (t : Terms) (a : Answers) (r : Reactor) : Type 0 where
   pub idle : IsIdle t a
-  pub released : (c : Conn) (cs : List Conn) → r.next ≡ c ∷ cs → IsReleased t (serve t fault a r.round c).conn a.released
+  pub released : (c : Conn) (cs : List Conn) → r.next ≡ c ∷ cs → IsReleased t (serve t a r.round c).conn a.released
 
 -- the same by the session words alone: a look shows no uid or that of the served connection's session, and the release answers it
 pub record IsFaithful (t : Terms) (word : ℕ → ℕ) (a : Answers) (r : Reactor) : Type 0 where
@@ -29,17 +32,17 @@ abbrev pub Known : (ℕ → ℕ) → Conn → Type 0
 Known word c = (c.uid ≡ 0) ⊎ (c.uid ≡ word c.session)
 
 -- the pipe call that a reactor asked for: what it makes of the history, and what it gives
-pub data Called (r : Reactor) (took pushed : Mail) : Mail → Mail → Got → Type 0 where
+pub data Called (r : Reactor) (took pushed : Mail) : Mail → Mail → Got Message → Type 0 where
   TookOne : r.last ≡ Take → (from : ActorId) (m : Message) → Called r took pushed (took ++ (from, m) ∷ []) pushed (Took m)
   FoundNone : r.last ≡ Take → Called r took pushed took pushed Empty
   PushedOne : (w : ℕ) (m : Message) → r.last ≡ Push w m → Called r took pushed took (pushed ++ (Worker w, m) ∷ []) Pushed
   CameBack : (w : ℕ) (m : Message) → r.last ≡ Push w m → Called r took pushed took pushed (Full m)
-  NoCall : (r.last ≡ Nothing) ⊎ (r.last ≡ Rest) → Called r took pushed took pushed GotNothing
+  NoCall : (r.last ≡ Nothing) ⊎ (r.last ≡ Rest) → Called r took pushed took pushed gots.Nothing
 
 -- a reactor behind some turns, before the pipe call that it asks for
-pub data Runs (t : Terms) (fault : List (List ℕ) → Fault) (word : ℕ → ℕ) : Mail → Mail → Reactor → Type 0 where
-  First : (starved : Bool) (a : Answers) → IsFaithful t word a started → Runs t fault word [] [] (turn t fault starved a Start started)
-  Then : {took pushed : Mail} {r : Reactor} → Runs t fault word took pushed r → (later more : Mail) (got : Got) → Called r took pushed later more got → (starved : Bool) (a : Answers) → IsFaithful t word a (settled t starved got r) → Runs t fault word later more (turn t fault starved a got r)
+pub data Runs (t : Terms) (word : ℕ → ℕ) : Mail → Mail → Reactor → Type 0 where
+  First : (starved : Bool) (a : Answers) → IsFaithful t word a started → Runs t word [] [] (turn t starved a Start started)
+  Then : {took pushed : Mail} {r : Reactor} → Runs t word took pushed r → (later more : Mail) (got : Got Message) → Called r took pushed later more got → (starved : Bool) (a : Answers) → IsFaithful t word a (settled t starved got r) → Runs t word later more (turn t starved a got r)
 
 -- what it holds and asks for goes to a worker, whatever it took
 abbrev pub HeldBelow : Terms → Option (ℕ × Event) → Type 0

@@ -5,7 +5,7 @@ use Rattle.sw_record.specs.declared.record.LinkState.TheVariants.{Over}
 use Rattle.sw_record.specs.declared.record.LinkRecord.{LinkRecord}
 use Rattle.sw_record.specs.Terms.{Terms}
 use Rattle.sw_past.specs.Past.{Mail}
-use Rattle.sw_reactor_laws.specs.Conn.{Conn, Fault}
+use Rattle.sw_reactor_laws.specs.Conn.{Conn}
 use Rattle.sw_reactor_laws.specs.Reactor.{Reactor}
 use Rattle.sw_reactor_laws.specs.Runs.{Runs, First, Then}
 
@@ -19,6 +19,6 @@ Calm b c = CalmOf b c.cause
 abbrev pub CalmLink : Bool → LinkRecord → Type 0
 CalmLink b l = (e : Ended) → l.state ≡ Over e → e.cause ≡ Stop → b ≡ true
 
-abbrev pub stop_read : {t : Terms} {fault : List (List ℕ) → Fault} {word : ℕ → ℕ} {took pushed : Mail} {r : Reactor} → Runs t fault word took pushed r → Bool
+abbrev pub stop_read : {t : Terms} {word : ℕ → ℕ} {took pushed : Mail} {r : Reactor} → Runs t word took pushed r → Bool
 stop_read (First starved a f) = a.stop
 stop_read (Then before later more got call starved a f) = if a.stop then true else stop_read before
