@@ -80,7 +80,7 @@ takes_chose : (t : Terms) (r : Reactor) → (r.next ≡ [] → r.done ≡ []) �
 takes_chose t r tight true = record { ends = refl; given = refl; tight = each_tight stops r tight; giving = tt; done = λ q. absurd (cc) }
 takes_chose t r tight false = record { ends = refl; given = refl; tight = tight; giving = tt; done = λ q. absurd (cc) }
 
-chosen_chose : (t : Terms) (a : Answers) (r : Reactor) → (r.next ≡ [] → r.done ≡ []) → (ask : Ask) → Chose t r (chosen t a ask r)
+pub chosen_chose : (t : Terms) (a : Answers) (r : Reactor) → (r.next ≡ [] → r.done ≡ []) → (ask : Ask) → Chose t r (chosen t a ask r)
 chosen_chose t a r tight Take = serves_chose t a r tight r.next refl
 chosen_chose t a r tight (Push w m) = takes_chose t r tight a.stop
 chosen_chose t a r tight Nothing = takes_chose t r tight a.stop
@@ -160,7 +160,7 @@ pub record CountsAfter (t : Terms) (took pushed : Mail) (r : Reactor) : Type 0 w
   pub giving : IsGiving r.given r.last
   pub done : r.last ≡ Finished → IsDone t r
 
-call_counts : (t : Terms) (r : Reactor) (took pushed later more : Mail) (got : Got Message) → Called r took pushed later more got → CountsAfter t took pushed r → (starved : Bool) → Counts t later more (settled t starved got r)
+pub call_counts : (t : Terms) (r : Reactor) (took pushed later more : Mail) (got : Got Message) → Called r took pushed later more got → CountsAfter t took pushed r → (starved : Bool) → Counts t later more (settled t starved got r)
 call_counts t r took pushed _ _ _ (TookOne e from m) c starved = took_counts t took pushed starved from m (record r { empty = false }) (record { ends = c.counts.ends; gave = c.counts.gave; tight = c.counts.tight })
 call_counts t r took pushed _ _ _ (FoundNone e) c starved = record { ends = c.counts.ends; gave = c.counts.gave; tight = c.counts.tight }
 call_counts t r took pushed _ _ _ (PushedOne w m e) c starved = subst (λ (k : Ask). Counts t took (pushed ++ (Worker w, m) ∷ []) (pushed_by t k r)) (sym e) (pushed_counts t took pushed w m r (subst (IsGiving r.given) e c.giving) c.counts)

@@ -24,6 +24,7 @@ use Rattle.sw_reactor_laws.specs.Quiet.{QuietConn, QuietOver, Quiet, QuietBy, Qu
 use Rattle.sw_reactor_laws.specs.Modes.{ModeLaws, back_link}
 use Rattle.sw_reactor_laws.specs.Runs.{Called, TookOne, FoundNone, PushedOne, CameBack, NoCall, Runs, First, Then, Straight, AsksBelow}
 use Rattle.sw_reactor_laws.proofs.Flow.{more_of}
+use Rattle.sw_reactor_laws.proofs.Members.{each_has}
 use Rattle.sw_reactor_laws.proofs.Kept.{live_kept, kept_took, back_kept}
 use Rattle.sw_reactor_laws.proofs.Lift.{Aim, Ending, map_append}
 use Rattle.sw_reactor_laws.proofs.Turn.{turn_quiet, started_quiet}
@@ -34,12 +35,6 @@ use Rattle.sw_step.specs.declared.actor.ActorId.TheVariants as mail
 -- what each connection shows
 abbrev Shows : Terms → Aim → Ending → Mail → Mail → Conn → Type 0
 Shows t a w took pushed c = IsKept t a w c.session (live_link t c) took pushed
-
-each_has : {A : Type 0} (P : A → Type 0) (xs : List A) → Each P xs → (x : A) → Has x xs → P x
-each_has P [] h x (zero, e) = absurd (cc)
-each_has P [] h x (suc k, e) = absurd (cc)
-each_has P (y ∷ ys) h x (zero, e) = subst P (let g : Some y ≡ Some x = e in let k : y ≡ x = cc in k) h.0
-each_has P (y ∷ ys) h x (suc k, e) = each_has P ys h.1 x (k, e)
 
 -- its law, of the links that it shows
 abbrev Told : Terms → Aim → Ending → Mail → Mail → LinkRecord → Type 0
@@ -90,7 +85,7 @@ map_back : (P Q : Conn → Type 0) (f : Conn → Conn) → ((c : Conn) → P (f 
 map_back P Q f h [] g = tt
 map_back P Q f h (c ∷ cs) g = (h c g.0, map_back P Q f h cs g.1)
 
-map_same : (f : Conn → Conn) → ((c : Conn) → (f c).session ≡ c.session) → (cs : List Conn) → collect session_in (map f cs) ≡ collect session_in cs
+pub map_same : (f : Conn → Conn) → ((c : Conn) → (f c).session ≡ c.session) → (cs : List Conn) → collect session_in (map f cs) ≡ collect session_in cs
 map_same f h [] = refl
 map_same f h (c ∷ cs) = ap (λ (s : ℕ). s ∷ collect session_in (map f cs)) (h c) ∙ ap (λ zs. c.session ∷ zs) (map_same f h cs)
 
@@ -122,7 +117,7 @@ at_shows t a w m n took pushed f e h c q = by e q
     by (Finish id b) g = pick false g
     by (Task v id b) g = pick false g
 
-at_session : (f : Conn → Conn) (e : Event) → ((c : Conn) → (f c).session ≡ c.session) → (c : Conn) → (at_event f e c).session ≡ c.session
+pub at_session : (f : Conn → Conn) (e : Event) → ((c : Conn) → (f c).session ≡ c.session) → (c : Conn) → (at_event f e c).session ≡ c.session
 at_session f e h c = by e
   where
     pick : (b : Bool) → ◌≡◌ {A = ℕ} (if b then f c else c).session c.session

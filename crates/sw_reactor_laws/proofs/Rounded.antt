@@ -39,7 +39,7 @@ sum_mid : (f : Conn → ℕ) (xs : List Conn) (x : Conn) (ys : List Conn) → su
 sum_mid f [] x ys = refl
 sum_mid f (z ∷ xs) x ys = (let r : sum_of f (xs ++ x ∷ ys) ≡ f x + sum_of f (xs ++ ys) = sum_mid f xs x ys in omega arith)
 
-sum_map : (f : Conn → ℕ) (g : Conn → Conn) → ((c : Conn) → f (g c) ≡ f c) → (cs : List Conn) → sum_of f (map g cs) ≡ sum_of f cs
+pub sum_map : (f : Conn → ℕ) (g : Conn → Conn) → ((c : Conn) → f (g c) ≡ f c) → (cs : List Conn) → sum_of f (map g cs) ≡ sum_of f cs
 sum_map f g h [] = refl
 sum_map f g h (c ∷ cs) = (let r : sum_of f (map g cs) ≡ sum_of f cs = sum_map f g h cs in let e : f (g c) ≡ f c = h c in omega arith)
 

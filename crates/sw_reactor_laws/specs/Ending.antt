@@ -1,11 +1,11 @@
 -- A reactor's own count of NoMore, and what it is once it is finished.
-use Rattle.std.specs.Prelude.{◌≡◌, ℕ, ◌+◌, ◌≤◌, nat_lt, if◌then◌else◌, [], length}
+use Rattle.std.specs.Prelude.{◌≡◌, ℕ, ◌+◌, ◌≤◌, nat_lt, if◌then◌else◌, [], ◌∷◌, length}
 use Rattle.sw_lists.specs.Lists.{collect}
 use Rattle.sw_step.specs.declared.actor.ActorId.TheVariants.{Worker}
 use Rattle.sw_record.specs.Terms.{Terms}
 use Rattle.sw_past.specs.Messages.{Message, FreshMsg, SendMsg, CloseMsg, ResetMsg, Bye, EventMsg, OverMsg, NoMore}
 use Rattle.sw_past.specs.Past.{Mail, bare, of}
-use Rattle.sw_past.specs.Views.{no_more}
+use Rattle.sw_past.specs.Views.{no_more, fresh_in}
 use Rattle.sw_reactor_laws.specs.Reactor.{Reactor, Ask, Take, Push, Nothing, Rest, Finished, all}
 
 -- with nothing on its way
@@ -46,3 +46,8 @@ pub record Chose (t : Terms) (r d : Reactor) : Type 0 where
   pub tight : d.next ≡ [] → d.done ≡ []
   pub giving : IsGiving d.given d.last
   pub done : d.last ≡ Finished → IsDone t d
+
+-- no link comes behind a NoMore: the door's comes behind all links, and hands send theirs behind the reactor's own
+abbrev pub LinksFirst : Mail → Type 0
+LinksFirst [] = Unit {0}
+LinksFirst (x ∷ ms) = (¬ (no_more x.1 ≡ []) → collect fresh_in (bare ms) ≡ []) × LinksFirst ms
