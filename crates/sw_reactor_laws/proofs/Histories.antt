@@ -20,8 +20,9 @@ use Rattle.sw_past.specs.Routes.{IsFair}
 use Rattle.sw_join.specs.Laws.{Aim, Ending}
 use Rattle.sw_reactor_laws.specs.Conn.{Conn, Answers, Does, Pushes, Moves, Stays, Leaves, Served, holds, stops, at_event, writes, serve, live_link, over_link}
 use Rattle.sw_reactor_laws.specs.Reactor.{Reactor, Ask, Take, Push, Nothing, Rest, Finished, all, each_conn, settled, settled_full, full_by, turned, rest_by, stayed, served_by, counted, ends_by, serves, chosen, turn, started, live_links, kept}
-use Rattle.sw_reactor_laws.specs.Quiet.{QuietOver, QuietLists, Quiet, QuietBy, QuietAfter, Grows, session_in, some_list, session_over, sessions}
+use Rattle.sw_reactor_laws.specs.Quiet.{QuietOver, QuietLists, Quiet, QuietBy, QuietAfter, Grows, IsCaused, session_in, some_list, session_over, sessions}
 use Rattle.sw_reactor_laws.specs.Modes.{ModeLaws}
+use Rattle.sw_reactor_laws.specs.Shows.{WasAsked}
 use Rattle.sw_reactor_laws.specs.Runs.{Called, TookOne, FoundNone, PushedOne, CameBack, NoCall, Runs, First, Then}
 use Rattle.sw_reactor_laws.specs.Round.{sum_of, sent_of}
 use Rattle.sw_reactor_laws.specs.Histories.{pushed_packet, counts_in, counted_in, at_first, at_served, leaves_with, frees, freed_in, told_uid, freed_by, freed_of, first_of, firsts}
@@ -134,6 +135,7 @@ pub record Listed (took : Mail) (cs : List Conn) (ls : List LinkRecord) : Type 0
   pub came : Perm ℕ (sessions cs ls) (collect fresh_in (bare took))
   pub ended : Each (λ (l : LinkRecord). (e : Ended) × (l.state ≡ Over e)) ls
   pub have : Each (λ (l : LinkRecord). (s : ℕ) × (session_of l.state ≡ Some s)) ls
+  pub why : Each (WasAsked took) ls
 
 listed_of : (t : Terms) (a : Aim) (w : Ending) (n : ℕ) (took pushed : Mail) (cs : List Conn) (ls : List LinkRecord) → QuietLists t a w n took pushed cs ls → Listed took cs ls
 listed_of t a w n took pushed cs ls q =
@@ -142,7 +144,11 @@ listed_of t a w n took pushed cs ls q =
       came = q.came;
       ended = each_more (QuietOver t a w took pushed) (λ (l : LinkRecord). (e : Ended) × (l.state ≡ Over e)) ls (λ l h. h.ended) q.over;
       have = each_more (QuietOver t a w took pushed) (λ (l : LinkRecord). (s : ℕ) × (session_of l.state ≡ Some s)) ls (λ l h. (h.number, h.session)) q.over;
+      why = each_more (QuietOver t a w took pushed) (WasAsked took) ls (λ l h s e p g. subst (λ (u : ℕ). IsCaused u (Some e.cause) took) (some_same h.number s (sym h.session ∙ p)) (h.why e g)) q.over;
     }
+  where
+    some_same : (x y : ℕ) → Some x ≡ Some y → x ≡ y
+    some_same x y e = cc
 
 full_listed : (t : Terms) (a : Aim) (w : Ending) (n : ℕ) (took pushed : Mail) (v : ℕ) (m : Message) (r : Reactor) → Quiet t a w n took pushed (settled_full v m r) → Listed took (all r) r.over
 full_listed t a w n took pushed v (FreshMsg ip s) r q = listed_of t a w n took pushed (all r) r.over q
@@ -154,7 +160,7 @@ full_listed t a w n took pushed v (EventMsg x) r q =
     (let f : Conn → Conn = at_event (holds v x) x in
     let e : sessions (all (each_conn f r)) r.over ≡ sessions (all r) r.over = ap (λ (zs : List ℕ). zs ++ collect session_over r.over) (ap (collect session_in) (sym (map_append f r.done r.next)) ∙ map_same f (at_session (holds v x) x (λ c. refl)) (all r)) in
     let l : Listed took (all (each_conn f r)) r.over = listed_of t a w n took pushed (all (each_conn f r)) r.over q in
-    record { distinct = subst Distinct e l.distinct; came = subst (λ (zs : List ℕ). Perm ℕ zs (collect fresh_in (bare took))) e l.came; ended = l.ended; have = l.have })
+    record { distinct = subst Distinct e l.distinct; came = subst (λ (zs : List ℕ). Perm ℕ zs (collect fresh_in (bare took))) e l.came; ended = l.ended; have = l.have; why = l.why })
 full_listed t a w n took pushed v (OverMsg id) r q = listed_of t a w n took pushed (all r) r.over q
 full_listed t a w n took pushed v NoMore r q = listed_of t a w n took pushed (all r) r.over q
 

@@ -20,7 +20,7 @@ use Rattle.sw_past.specs.Messages.{Message, FreshMsg, SendMsg, CloseMsg, ResetMs
 use Rattle.sw_past.specs.Past.{Mail}
 use Rattle.sw_reactor_laws.specs.Conn.{cuts_next, starve, cutter, Conn, Answers, fresh, sent, takes, stops, noted, holds, at_event, wrote, flushed_some, flushed, writes, Does, Pushes, Moves, Stays, Leaves, Served, pushes, plain, read_by, cut_by, closes, can_leave, end_by, cause_by, connects, open_by, held_by, tidied, serve, account, over_link}
 use Rattle.sw_reactor_laws.specs.Reactor.{Reactor, Ask, Take, Push, Nothing, Rest, Finished, all, each_conn, settled, settled_msg, settled_push, settled_full, pushed_by, full_by, turned, stayed, served_by, counted, ends_by, serves, chosen, started}
-use Rattle.sw_reactor_laws.specs.Runs.{IsHonest, IsFaithful, Known, Runs, First, Then}
+use Rattle.sw_reactor_laws.specs.Runs.{TellsUid, IsHonest, IsFaithful, Known, Runs, First, Then}
 use Rattle.sw_frame.specs.Cutting.{next_of}
 
 -- a serve
@@ -270,9 +270,6 @@ pub honest_then : (word : ℕ → ℕ) (t : Terms) (a : Answers) (starved : Bool
 honest_then word t a starved got r f h = honest_of word t a (settled t starved got r) f (settled_known word t starved got r h)
 
 -- each ended link tells the uid of its session
-abbrev pub TellsUid : (ℕ → ℕ) → LinkRecord → Type 0
-TellsUid word l = (e : Ended) (s : ℕ) → l.state ≡ Over e → e.session ≡ Some s → e.uid ≡ word s
-
 msg_over : (t : Terms) (starved : Bool) (m : Message) (r : Reactor) → (settled_msg t starved m r).over ≡ r.over
 msg_over t starved (FreshMsg ip s) r = refl
 msg_over t starved (SendMsg s b) r = refl

@@ -1,5 +1,5 @@
 -- Each cause rests on what it says: an end or a fault of a read, a fault of a write, or a fault behind the packets.
-use Rattle.std.proofs.Common.{◌≡◌, ℕ, ◌+◌, ◌-◌, ◌==◌, ◌^◌, Bool, true, false, nat_lt, if◌then◌else◌, List, [], ◌∷◌, ◌++◌, length, slice_get, refl, ap, ◌∙◌, sym, subst, append-nil, Option, Some, None}
+use Rattle.std.proofs.Common.{◌≡◌, ℕ, ◌+◌, ◌-◌, ◌%◌, ◌==◌, ◌^◌, Bool, true, false, nat_lt, if◌then◌else◌, List, [], ◌∷◌, ◌++◌, length, slice_get, refl, ap, ◌∙◌, sym, subst, append-nil, Option, Some, None}
 use Rattle.sw_data.specs.declared.messages.Got.{Got}
 use Rattle.sw_data.specs.declared.messages.Got.TheVariants.{Start}
 use Rattle.sw_cut.specs.declared.First.{First as FirstOf}
@@ -48,8 +48,8 @@ on_more t rs rs2 ws ws2 s ps (TooLong n) h = h
 on_more t rs rs2 ws ws2 s ps (BadLength n) h = h
 on_more t rs rs2 ws ws2 s ps (Overflow n) h = tt
 on_more t rs rs2 ws ws2 s ps Stop h = tt
-on_more t rs rs2 ws ws2 s ps NoSlot h = tt
-on_more t rs rs2 ws ws2 s ps NumbersSpent h = tt
+on_more t rs rs2 ws ws2 s ps NoSlot h = absurd h
+on_more t rs rs2 ws ws2 s ps NumbersSpent h = absurd h
 on_more t rs rs2 ws ws2 s ps NoMemory h = tt
 
 if_more : (t : Terms) (rs rs2 : List (ℕ × Read)) (ws ws2 : List (ℕ × LinkWrite)) (s : ℕ) (ps : List (List ℕ)) (o : Option Cause) → RestsIf t rs ws s ps o → RestsIf t (rs ++ rs2) (ws ++ ws2) s ps o
@@ -253,12 +253,13 @@ abbrev pub AllRest : Terms → List (ℕ × Read) → List (ℕ × LinkWrite) �
 AllRest t rs ws r = Both (ConnRests t rs ws) (LinkRests t rs ws) r
 
 link_more : (t : Terms) (rs rs2 : List (ℕ × Read)) (ws ws2 : List (ℕ × LinkWrite)) (l : LinkRecord) → LinkRests t rs ws l → LinkRests t (rs ++ rs2) (ws ++ ws2) l
-link_more t rs rs2 ws ws2 l h s e p q = on_more t rs rs2 ws ws2 s l.pieces e.cause (h s e p q)
+link_more t rs rs2 ws ws2 l h s e p q = (on_more t rs rs2 ws ws2 s l.pieces e.cause (h s e p q).0, (h s e p q).1, (h s e p q).2)
 
 over_rests : (t : Terms) (rs : List (ℕ × Read)) (ws : List (ℕ × LinkWrite)) (d : Conn) (u : ℕ) (e : Cause) → ConnRests t rs ws d → d.cause ≡ Some e → LinkRests t rs ws (over_link t d u e)
 over_rests t rs ws d u e h caused s x p q =
-    subst (λ (y : ℕ). RestsOn t rs ws y d.pieces x.cause) (some_same d.session s p)
-      (subst (λ (y : Ended). RestsOn t rs ws d.session d.pieces y.cause) (ends_same (account t d u e) x q) (subst (RestsIf t rs ws d.session d.pieces) caused h))
+    subst (λ (y : ℕ). RestsOn t rs ws y d.pieces x.cause × (x.fd ≡ y % t.max_conn) × (x.ip ≡ d.ip)) (some_same d.session s p)
+      (subst (λ (y : Ended). RestsOn t rs ws d.session d.pieces y.cause × (y.fd ≡ d.session % t.max_conn) × (y.ip ≡ d.ip)) (ends_same (account t d u e) x q)
+        (subst (RestsIf t rs ws d.session d.pieces) caused h, refl, refl))
   where
     some_same : (x y : ℕ) → Some x ≡ Some y → x ≡ y
     some_same x y q = cc

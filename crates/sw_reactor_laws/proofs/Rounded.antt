@@ -22,6 +22,7 @@ use Rattle.sw_reactor_laws.specs.Reactor.{Reactor, Ask, Take, Push, Nothing, Res
 use Rattle.sw_reactor_laws.specs.Quiet.{QuietOver, QuietLists, Quiet, QuietBy, Grows, ServedBy, ServedRight, session_in, session_over}
 use Rattle.sw_reactor_laws.specs.Modes.{ModeLaws}
 use Rattle.sw_reactor_laws.specs.Runs.{Called, TookOne, FoundNone, PushedOne, CameBack, NoCall, Runs, First, Then}
+use Rattle.sw_reactor_laws.specs.Shows.{EndsAllCut}
 use Rattle.sw_reactor_laws.specs.Round.{sum_of, is_packet, at_worker, held_at, holds_at, taken_of, sent_of, cut_of, packets_at, Round}
 use Rattle.sw_reactor_laws.proofs.Flow.{more_of}
 use Rattle.sw_reactor_laws.proofs.Lift.{Aim, Ending, perm_front, lists_perm, others_not, map_append, map_at}
@@ -348,9 +349,6 @@ finished_round t a w m word one some grows n small took pushed r runs f e none w
     round_whole t pushed r.over r.round one some (runs_straight t word some took pushed r runs).pushed_is (subst (λ (cs : List Conn). Round t pushed cs r.over r.round) none x) whole j lt
 
 -- links that ended with all cut: what was pushed of them is what was cut
-abbrev pub EndsAllCut : LinkRecord → Type 0
-EndsAllCut l = (e : Ended) × ((l.state ≡ Over e) × IsAllCut e.cause)
-
 whole_sum : (t : Terms) (a : Aim) (w : Ending) (took pushed : Mail) (ls : List LinkRecord) → Each (QuietOver t a w took pushed) ls → Each EndsAllCut ls → sum_of (cut_of t) ls ≡ total ls
 whole_sum t a w took pushed [] q h = refl
 whole_sum t a w took pushed (l ∷ ls) q h =

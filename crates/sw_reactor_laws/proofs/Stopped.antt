@@ -19,7 +19,7 @@ use Rattle.sw_past.specs.Past.{Mail}
 use Rattle.sw_reactor_laws.specs.Conn.{cuts_next, starve, Conn, Answers, fresh, sent, takes, stops, noted, holds, at_event, wrote, flushed_some, flushed, writes, Does, Pushes, Moves, Stays, Leaves, Served, looked, place, pushes, plain, read_by, cut_by, closes, can_leave, end_by, cause_by, connects, open_by, held_by, tidied, serve, account, over_link}
 use Rattle.sw_reactor_laws.specs.Reactor.{Reactor, Ask, Take, Push, Nothing, Rest, Finished, all, each_conn, settled, settled_msg, settled_push, settled_full, pushed_by, full_by, turned, stayed, served_by, counted, ends_by, serves, chosen, turn, started}
 use Rattle.sw_reactor_laws.specs.Runs.{Runs, First, Then}
-use Rattle.sw_reactor_laws.specs.Stopped.{CalmOf, Calm, CalmLink, stop_read}
+use Rattle.sw_reactor_laws.specs.Stopped.{CalmOf, Calm, CalmLink, stop_at, stop_read}
 use Rattle.sw_reactor_laws.proofs.Known.{settled_over, turned_over}
 use Rattle.sw_frame.specs.Cutting.{next_by, next_rest}
 use Rattle.sw_frame.specs.Cut.{cut}
@@ -281,18 +281,6 @@ serves_calm b t a r (c ∷ cs) e h =
       (each_append (Calm b) r.done cs front back.1) s.leaves h.over
 
 -- one more turn
-more_true : (x b : Bool) → b ≡ true → (if x then true else b) ≡ true
-more_true true b e = refl
-more_true false b e = e
-
-conns_more : (x b : Bool) (cs : List Conn) → Each (Calm b) cs → Each (Calm (if x then true else b)) cs
-conns_more x b [] h = tt
-conns_more x b (c ∷ cs) h = ((λ e. more_true x b (h.0 e)), conns_more x b cs h.1)
-
-links_more : (x b : Bool) (ls : List LinkRecord) → Each (CalmLink b) ls → Each (CalmLink (if x then true else b)) ls
-links_more x b [] h = tt
-links_more x b (l ∷ ls) h = ((λ e q z. more_true x b (h.0 e q z)), links_more x b ls h.1)
-
 conns_true : (cs : List Conn) → Each (Calm true) cs
 conns_true [] = tt
 conns_true (c ∷ cs) = ((λ e. refl), conns_true cs)
@@ -305,8 +293,8 @@ stops_calm : (b : Bool) (r : Reactor) → AllCalm b r → (x : Bool) → AllCalm
 stops_calm b r h true = record { conns = conns_true _; over = links_true _ }
 stops_calm b r h false = record { conns = h.conns; over = h.over }
 
-chosen_calm : (b : Bool) (t : Terms) (a : Answers) (r : Reactor) → AllCalm b r → (ask : Ask) → AllCalm (if a.stop then true else b) (chosen t a ask r)
-chosen_calm b t a r h Take = (let s : AllCalm b (serves t a r.next r) = serves_calm b t a r r.next refl h in record { conns = conns_more a.stop b _ s.conns; over = links_more a.stop b _ s.over })
+chosen_calm : (b : Bool) (t : Terms) (a : Answers) (r : Reactor) → AllCalm b r → (ask : Ask) → AllCalm (if stop_at ask a.stop then true else b) (chosen t a ask r)
+chosen_calm b t a r h Take = serves_calm b t a r r.next refl h
 chosen_calm b t a r h (Push w m) = stops_calm b r h a.stop
 chosen_calm b t a r h Nothing = stops_calm b r h a.stop
 chosen_calm b t a r h Rest = stops_calm b r h a.stop

@@ -6,7 +6,9 @@ use Rattle.sw_data.specs.declared.messages.Got.TheVariants as gots
 use Rattle.sw_lists.specs.Lists.{Each}
 use Rattle.sw_step.specs.declared.actor.ActorId.{ActorId}
 use Rattle.sw_step.specs.declared.actor.ActorId.TheVariants.{Worker}
-use Rattle.sw_record.specs.Words.{Event}
+use Rattle.sw_record.specs.Words.{Event, Ended}
+use Rattle.sw_record.specs.declared.record.LinkRecord.{LinkRecord}
+use Rattle.sw_record.specs.declared.record.LinkState.TheVariants.{Over}
 use Rattle.sw_record.specs.Terms.{Terms}
 use Rattle.sw_past.specs.Messages.{Message}
 use Rattle.sw_past.specs.Past.{Mail}
@@ -31,6 +33,10 @@ pub record IsFaithful (t : Terms) (word : ℕ → ℕ) (a : Answers) (r : Reacto
 abbrev pub Known : (ℕ → ℕ) → Conn → Type 0
 Known word c = (c.uid ≡ 0) ⊎ (c.uid ≡ word c.session)
 
+-- a link that ended tells the uid of its session
+abbrev pub TellsUid : (ℕ → ℕ) → LinkRecord → Type 0
+TellsUid word l = (e : Ended) (s : ℕ) → l.state ≡ Over e → e.session ≡ Some s → e.uid ≡ word s
+
 -- the pipe call that a reactor asked for: what it makes of the history, and what it gives
 pub data Called (r : Reactor) (took pushed : Mail) : Mail → Mail → Got Message → Type 0 where
   TookOne : r.last ≡ Take → (from : ActorId) (m : Message) → Called r took pushed (took ++ (from, m) ∷ []) pushed (Took m)
@@ -49,9 +55,11 @@ abbrev pub HeldBelow : Terms → Option (ℕ × Event) → Type 0
 HeldBelow t None = Unit {0}
 HeldBelow t (Some h) = h.0 < t.worker_num
 
+-- the same of a connection
 abbrev pub HoldsBelow : Terms → Conn → Type 0
 HoldsBelow t c = HeldBelow t c.held
 
+-- what it asks for goes to a worker
 abbrev pub AsksBelow : Terms → Ask → Type 0
 AsksBelow t Take = Unit {0}
 AsksBelow t (Push w m) = ToWorker t (Worker w, m)
@@ -59,11 +67,13 @@ AsksBelow t Nothing = Unit {0}
 AsksBelow t Rest = Unit {0}
 AsksBelow t Finished = Unit {0}
 
+-- all of these
 pub record Straight (t : Terms) (pushed : Mail) (r : Reactor) : Type 0 where
   pub pushed_is : Each (ToWorker t) pushed
   pub held : Each (HoldsBelow t) (all r)
   pub asks : AsksBelow t r.last
 
+-- what a serve pushes goes to a worker
 abbrev pub DoesBelow : Terms → Does → Type 0
 DoesBelow t (Pushes w e) = w < t.worker_num
 DoesBelow t Moves = Unit {0}
