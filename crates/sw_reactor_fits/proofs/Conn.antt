@@ -29,15 +29,15 @@ use Rattle.sw_conn.specs.Causes.{is_hard, is_packet_event}
 use Rattle.sw_conn.specs.Conn as conn
 use Rattle.sw_conn.specs.Serve as serving
 use Rattle.sw_record.specs.Terms.{Terms}
-use Rattle.sw_reactor_laws.specs.Conn.{Conn as Row, Answers, Served, Pushes, Moves, Stays, Leaves, plain, pushes, starve, read_by, after_read, cut_by, cuts_next, end_by, cause_by, open_by, held_by}
-use Rattle.sw_reactor_laws.specs.Conn as table
+use Rattle.sw_reactor_table.specs.Conn.{Conn as Row, Answers, Served, Pushes, Moves, Stays, Leaves, plain, pushes, starve, read_by, after_read, cut_by, cuts_next, end_by, cause_by, open_by, held_by}
+use Rattle.sw_reactor_table.specs.Conn as table
 use Rattle.sw_reactor_fits.specs.Shown.{settings, shown, IsCut, write_of, written_by, pieces_by, some_write, IsStep}
 
 -- what is settled
 pub shown_sent : {L K : Type 0} (t : Terms) (starved : Bool) (b : List ℕ) (ps : List (List ℕ)) (ws : List ℕ) (n : ℕ) (c : Conn L K) → shown ps ws n (conn.sent (settings t) starved b c) ≡ table.sent t starved b (shown ps ws n c)
 shown_sent {L} {K} t starved b ps ws n c = pick (is_hard c.cause) (nat_lt t.buffer_size (length c.unsent + length b)) starved
   where
-    pick : (x y z : Bool) → ◌≡◌ {A = Row} (shown {L} {K} ps ws n (if x then c else (if y then record c { cause = Some (causes.Overflow (length c.unsent + length b)) } else (if z then record c { cause = Some causes.NoMemory } else record c { unsent = c.unsent ++ b })))) (if x then shown ps ws n c else (if y then record (shown ps ws n c) { cause = Some (causes.Overflow (length c.unsent + length b)) } else (if z then record (shown ps ws n c) { cause = Some causes.NoMemory } else record (shown ps ws n c) { unsent = c.unsent ++ b })))
+    pick : (x y z : Bool) → ◌≡◌ {A = Row} (shown {L = L} {K = K} ps ws n (if x then c else (if y then record c { cause = Some (causes.Overflow (length c.unsent + length b)) } else (if z then record c { cause = Some causes.NoMemory } else record c { unsent = c.unsent ++ b })))) (if x then shown ps ws n c else (if y then record (shown ps ws n c) { cause = Some (causes.Overflow (length c.unsent + length b)) } else (if z then record (shown ps ws n c) { cause = Some causes.NoMemory } else record (shown ps ws n c) { unsent = c.unsent ++ b })))
     pick true y z = refl
     pick false true z = refl
     pick false false true = refl
@@ -59,8 +59,8 @@ pub shown_holds : {L K : Type 0} (ps : List (List ℕ)) (ws : List ℕ) (n : ℕ
 shown_holds ps ws n w e c = refl
 
 pub shown_fresh : {L K : Type 0} (framing : Framing) (link : L) (ip : ℕ) (ticket : K) (s : ℕ) (c : Conn L K) → conn.IsFresh framing link ip ticket s c → (starved : Bool) × (shown [] [] 0 c ≡ table.fresh starved ip s)
-shown_fresh {L} {K} framing link ip ticket s c (inl e) = (false, ap (shown {L} {K} [] [] 0) e)
-shown_fresh {L} {K} framing link ip ticket s c (inr e) = (true, ap (shown {L} {K} [] [] 0) e)
+shown_fresh {L} {K} framing link ip ticket s c (inl e) = (false, ap (shown {L = L} {K = K} [] [] 0) e)
+shown_fresh {L} {K} framing link ip ticket s c (inr e) = (true, ap (shown {L = L} {K = K} [] [] 0) e)
 
 -- below the bounds of its counts an event that was pushed is noted as the table has it
 below_up : (n : ℕ) → n < 2 ^ 64 - 1 → conn.up n ≡ n + 1
@@ -96,8 +96,8 @@ shown_wrote ps ws n writing.NotYet c = refl
 shown_wrote ps ws n writing.Failed c = refl
 
 pub shown_flushed : {L K : Type 0} (gives : L → List ℕ → LinkWrite → L → Type 0) (ps : List (List ℕ)) (ws : List ℕ) (n : ℕ) (c d : Conn L K) (wrote : Option LinkWrite) → serving.FlushedBy gives c wrote d → shown ps (written_by wrote c.unsent ws) n d ≡ table.flushed (write_of wrote) (shown ps ws n c)
-shown_flushed {L} {K} gives ps ws n c d None f = ap (shown {L} {K} ps ws n) f.1 ∙ no_write writing.NotYet (shown ps ws n c) (is_hard c.cause) c.unsent f.0
-shown_flushed {L} {K} gives ps ws n c d (Some w) f = ap (shown {L} {K} ps (written_by (Some w) c.unsent ws) n) f.2 ∙ shown_wrote ps ws n w c ∙ some_flush w (shown ps ws n c) (is_hard c.cause) c.unsent f.0
+shown_flushed {L} {K} gives ps ws n c d None f = ap (shown {L = L} {K = K} ps ws n) f.1 ∙ no_write writing.NotYet (shown ps ws n c) (is_hard c.cause) c.unsent f.0
+shown_flushed {L} {K} gives ps ws n c d (Some w) f = ap (shown {L = L} {K = K} ps (written_by (Some w) c.unsent ws) n) f.2 ∙ shown_wrote ps ws n w c ∙ some_flush w (shown ps ws n c) (is_hard c.cause) c.unsent f.0
 
 -- a write moved something where the table says so
 pub shown_moved : {L K : Type 0} (gives : L → List ℕ → LinkWrite → L → Type 0) (ps : List (List ℕ)) (ws : List ℕ) (n : ℕ) (c d : Conn L K) (wrote : Option LinkWrite) → serving.FlushedBy gives c wrote d → table.writes (write_of wrote) (shown ps ws n c) ≡ some_write wrote
@@ -121,10 +121,10 @@ shown_moved gives ps ws n c d (Some w) f = some (is_hard c.cause) c.unsent f.0 �
 
 -- the cutter is left alone by a write and by point 1, but for a cause that the write finds
 pub cut_flushed : {L K : Type 0} (gives : L → List ℕ → LinkWrite → L → Type 0) (t : Terms) (ps : List (List ℕ)) (n : ℕ) (c d : Conn L K) (wrote : Option LinkWrite) → serving.FlushedBy gives c wrote d → IsCut t ps n c → IsCut t ps n d
-cut_flushed {L} {K} gives t ps n c d None f h = subst (IsCut {L} {K} t ps n) (sym f.1) h
-cut_flushed {L} {K} gives t ps n c d (Some w) f h = subst (IsCut {L} {K} t ps n) (sym f.2) (by w)
+cut_flushed {L} {K} gives t ps n c d None f h = subst (IsCut {L = L} {K = K} t ps n) (sym f.1) h
+cut_flushed {L} {K} gives t ps n c d (Some w) f h = subst (IsCut {L = L} {K = K} t ps n) (sym f.2) (by w)
   where
-    by : (v : LinkWrite) → IsCut {L} {K} t ps n (record (conn.wrote v c) { link = d.link })
+    by : (v : LinkWrite) → IsCut {L = L} {K = K} t ps n (record (conn.wrote v c) { link = d.link })
     by (writing.Took k) = h
     by writing.NotYet = h
     by writing.Failed = λ e. absurd (cc)
@@ -133,7 +133,7 @@ cut_flushed {L} {K} gives t ps n c d (Some w) f h = subst (IsCut {L} {K} t ps n)
 pub shown_sees : {L K : Type 0} (ps : List (List ℕ)) (ws : List ℕ) (n look : ℕ) (c : Conn L K) → shown ps ws n (conn.sees look c) ≡ table.sees look (shown ps ws n c)
 shown_sees {L} {K} ps ws n look c = pick (c.uid == 0)
   where
-    pick : (b : Bool) → ◌≡◌ {A = Row} (shown {L} {K} ps ws n (if b then record c { uid = look; split = c.dispatched } else c)) (if b then record (shown ps ws n c) { uid = look; split = c.dispatched } else shown ps ws n c)
+    pick : (b : Bool) → ◌≡◌ {A = Row} (shown {L = L} {K = K} ps ws n (if b then record c { uid = look; split = c.dispatched } else c)) (if b then record (shown ps ws n c) { uid = look; split = c.dispatched } else shown ps ws n c)
     pick true = refl
     pick false = refl
 
@@ -203,7 +203,7 @@ cuts_chosen {L} {K} t ps ws n c d step free h (m, i, e, f) =
 ended_chosen : {L K : Type 0} (t : Terms) (ps : List (List ℕ)) (ws : List ℕ) (n : ℕ) (c : Conn L K) (e : Cause) → IsCut t ps n c → IsChosen t ps ws n (λ a k. end_by t a k e (shown ps ws n c)) c (serving.ended_by (settings t) c e)
 ended_chosen {L} {K} t ps ws n c e h = pick (table.closes t c.phase) refl (table.can_leave (shown ps ws n c))
   where
-    pick : (x : Bool) → table.closes t c.phase ≡ x → (y : Bool) → IsChosen {L} {K} t ps ws n (λ a k. if x then pushes t a k (Closed c.session) false (shown ps ws n c) else plain (shown ps ws n c) (if y then Leaves e else Stays)) c (if x then steps.Tell (Closed c.session) else (if y then steps.Leave e else steps.Stay))
+    pick : (x : Bool) → table.closes t c.phase ≡ x → (y : Bool) → IsChosen {L = L} {K = K} t ps ws n (λ a k. if x then pushes t a k (Closed c.session) false (shown ps ws n c) else plain (shown ps ws n c) (if y then Leaves e else Stays)) c (if x then steps.Tell (Closed c.session) else (if y then steps.Leave e else steps.Stay))
     pick true q y = record { starved = false; taken = n; is = λ a k z. refl; cut = h; reads = λ z. absurd (cc) }
     pick false q true = record { starved = false; taken = n; is = λ a k z. refl; cut = h; reads = λ z. absurd (cc) }
     pick false q false = record { starved = false; taken = n; is = λ a k z. refl; cut = h; reads = λ z. absurd (cc) }
@@ -211,7 +211,7 @@ ended_chosen {L} {K} t ps ws n c e h = pick (table.closes t c.phase) refl (table
 cause_chosen : {L K : Type 0} (t : Terms) (ps : List (List ℕ)) (ws : List ℕ) (n : ℕ) (o : Option Cause) (c d : Conn L K) (step : Step) → c.cause ≡ o → IsCut t ps n c → serving.ChoosesCause (settings t) o c d step → IsChosen t ps ws n (λ a k. cause_by t a k o (shown ps ws n c)) d step
 cause_chosen {L} {K} t ps ws n None c d step free h m = pick (nat_lt c.dispatched (2 ^ 64 - 1)) m
   where
-    pick : (x : Bool) → MatchBool x (serving.Cuts c d step) ((d ≡ c) × (step ≡ steps.Stay)) → IsChosen {L} {K} t ps ws n (λ a k. if x then cuts_next t a k (shown ps ws n c) else plain (shown ps ws n c) Stays) d step
+    pick : (x : Bool) → MatchBool x (serving.Cuts c d step) ((d ≡ c) × (step ≡ steps.Stay)) → IsChosen {L = L} {K = K} t ps ws n (λ a k. if x then cuts_next t a k (shown ps ws n c) else plain (shown ps ws n c) Stays) d step
     pick true q = cuts_chosen t ps ws n c d step free h q
     pick false q = chosen_same t ps ws n (λ a k. plain (shown ps ws n c) Stays) c d steps.Stay step q.0 q.1 (record { starved = false; taken = n; is = λ a k z. refl; cut = h; reads = λ z. absurd (cc) })
 cause_chosen {L} {K} t ps ws n (Some e) c d step caused h m = chosen_same t ps ws n (λ a k. end_by t a k e (shown ps ws n c)) c d (serving.ended_by (settings t) c e) step m.0 m.1 (ended_chosen t ps ws n c e h)
@@ -219,7 +219,7 @@ cause_chosen {L} {K} t ps ws n (Some e) c d step caused h m = chosen_same t ps w
 open_chosen : {L K : Type 0} (t : Terms) (ps : List (List ℕ)) (ws : List ℕ) (n : ℕ) (c d : Conn L K) (step : Step) → IsCut t ps n c → serving.ChoosesOpen (settings t) c d step → IsChosen t ps ws n (λ a k. open_by t a k (shown ps ws n c)) d step
 open_chosen {L} {K} t ps ws n c d step h m = pick (table.connects t c.phase) m
   where
-    pick : (x : Bool) → MatchBool x ((d ≡ c) × (step ≡ steps.Tell (Connect c.session))) (serving.ChoosesCause (settings t) c.cause c d step) → IsChosen {L} {K} t ps ws n (λ a k. if x then pushes t a k (Connect c.session) false (shown ps ws n c) else cause_by t a k c.cause (shown ps ws n c)) d step
+    pick : (x : Bool) → MatchBool x ((d ≡ c) × (step ≡ steps.Tell (Connect c.session))) (serving.ChoosesCause (settings t) c.cause c d step) → IsChosen {L = L} {K = K} t ps ws n (λ a k. if x then pushes t a k (Connect c.session) false (shown ps ws n c) else cause_by t a k c.cause (shown ps ws n c)) d step
     pick true q = chosen_same t ps ws n (λ a k. pushes t a k (Connect c.session) false (shown ps ws n c)) c d (steps.Tell (Connect c.session)) step q.0 q.1 (record { starved = false; taken = n; is = λ a k z. refl; cut = h; reads = λ z. absurd (cc) })
     pick false q = cause_chosen t ps ws n c.cause c d step refl h q
 
@@ -235,7 +235,7 @@ chosen_is t ps ws n c d step h m = held_chosen t ps ws n c.held c d step h m
 pub shown_read : {L K : Type 0} (t : Terms) (ps : List (List ℕ)) (ws : List ℕ) (n : ℕ) (starved : Bool) (r : Read) (c : Conn L K) → c.cause ≡ None → shown (pieces_by r ps) ws n (conn.read_by starved r c) ≡ (read_by starved r (shown ps ws n c)).conn
 shown_read {L} {K} t ps ws n starved (GotPiece p) c free = pick starved
   where
-    pick : (b : Bool) → ◌≡◌ {A = Row} (shown {L} {K} (ps ++ p ∷ []) ws n (if b then record c { cause = Some causes.NoMemory } else record c { cutter = record c.cutter { pieces = c.cutter.pieces ++ p ∷ [] } })) (record (shown ps ws n c) { pieces = ps ++ p ∷ []; cause = (if b then Some causes.NoMemory else None) })
+    pick : (b : Bool) → ◌≡◌ {A = Row} (shown {L = L} {K = K} (ps ++ p ∷ []) ws n (if b then record c { cause = Some causes.NoMemory } else record c { cutter = record c.cutter { pieces = c.cutter.pieces ++ p ∷ [] } })) (record (shown ps ws n c) { pieces = ps ++ p ∷ []; cause = (if b then Some causes.NoMemory else None) })
     pick true = refl
     pick false = ap (λ (o : Option Cause). let d : Row = record (shown ps ws n c) { pieces = ps ++ p ∷ []; cause = o } in d) free
 shown_read t ps ws n starved ReadNotYet c free = refl
@@ -245,7 +245,7 @@ shown_read t ps ws n starved ReadFailed c free = refl
 pub cut_read : {L K : Type 0} (t : Terms) (ps : List (List ℕ)) (n : ℕ) (starved : Bool) (r : Read) (c : Conn L K) → c.cause ≡ None → IsCut t ps n c → IsCut t (pieces_by r ps) n (conn.read_by starved r c)
 cut_read {L} {K} t ps n starved (GotPiece p) c free h = pick starved
   where
-    pick : (b : Bool) → IsCut {L} {K} t (ps ++ p ∷ []) n (if b then record c { cause = Some causes.NoMemory } else record c { cutter = record c.cutter { pieces = c.cutter.pieces ++ p ∷ [] } })
+    pick : (b : Bool) → IsCut {L = L} {K = K} t (ps ++ p ∷ []) n (if b then record c { cause = Some causes.NoMemory } else record c { cutter = record c.cutter { pieces = c.cutter.pieces ++ p ∷ [] } })
     pick true = λ z. absurd (cc)
     pick false = λ z. ap (λ (x : Cutting). let d : Cutting = record x { pieces = x.pieces ++ p ∷ [] } in d) (h free)
 cut_read t ps n starved ReadNotYet c free h = h

@@ -10,7 +10,7 @@ use Rattle.sw_conn.specs.declared.serve.Step.TheVariants as steps
 use Rattle.sw_conn.specs.declared.terms.Terms.{Terms as Settings}
 use Rattle.sw_conn.specs.Causes.{is_packet_event}
 use Rattle.sw_record.specs.Terms.{Terms}
-use Rattle.sw_reactor_laws.specs.Conn.{Conn as Row, Answers, Served, Pushes, Moves, Stays, Leaves, plain, pushes, read_by}
+use Rattle.sw_reactor_table.specs.Conn.{Conn as Row, Answers, Served, Pushes, Moves, Stays, Leaves, plain, pushes, read_by}
 
 -- the settings that a connection goes by
 abbrev pub settings : Terms → Settings

@@ -14,13 +14,13 @@ use Rattle.sw_record.specs.Terms.{Terms, session_of}
 use Rattle.sw_past.specs.Messages.{Message, FreshMsg, SendMsg, CloseMsg, ResetMsg, Bye, EventMsg, OverMsg, NoMore}
 use Rattle.sw_past.specs.Past.{Mail, bare, of, with}
 use Rattle.sw_past.specs.Views.{fresh_in, fresh_of, no_more}
-use Rattle.sw_reactor_laws.specs.Conn.{Conn, Answers, stops, fresh, takes, noted, holds, at_event, writes, Does, Pushes, Moves, Stays, Leaves, serve, live_link}
-use Rattle.sw_reactor_laws.specs.Reactor.{Reactor, Ask, Take, Push, Nothing, Rest, Finished, all, each_conn, settled, settled_msg, settled_push, settled_full, pushed_by, full_by, turned, rest_by, served_by, counted, ends_by, serves, chosen, turn, started, live_links, kept}
-use Rattle.sw_reactor_laws.specs.Quiet.{QuietOver, Quiet, some_list, session_over, sessions}
-use Rattle.sw_reactor_laws.specs.Runs.{Called, TookOne, FoundNone, PushedOne, CameBack, NoCall, Runs, First, Then}
+use Rattle.sw_reactor_table.specs.Conn.{Conn, Answers, stops, fresh, takes, noted, holds, at_event, writes, Does, Pushes, Moves, Stays, Leaves, serve, live_link}
+use Rattle.sw_reactor_table.specs.Reactor.{Reactor, Ask, Take, Push, Nothing, Rest, Finished, all, each_conn, settled, settled_msg, settled_push, settled_full, pushed_by, full_by, turned, rest_by, served_by, counted, ends_by, serves, chosen, turn, started, live_links, kept}
+use Rattle.sw_reactor_table.specs.Quiet.{QuietOver, Quiet, some_list, session_over, sessions}
+use Rattle.sw_reactor_table.specs.Runs.{Called, TookOne, FoundNone, PushedOne, CameBack, NoCall, Runs, First, Then}
 use Rattle.sw_reactor_laws.specs.Ending.{Counts, IsGiving, IsGivingMsg, IsDone, Chose}
-use Rattle.sw_reactor_laws.proofs.Flow.{more_of}
-use Rattle.sw_reactor_laws.proofs.Settle.{lt_is, lt_not}
+use Rattle.sw_reactor_table.proofs.Flow.{more_of}
+use Rattle.sw_reactor_table.proofs.Settle.{lt_is, lt_not}
 
 -- lists that are empty
 map_none : (f : Conn → Conn) (cs : List Conn) → map f cs ≡ [] → cs ≡ []

@@ -18,20 +18,20 @@ use Rattle.sw_past.specs.Past.{Mail, bare}
 use Rattle.sw_past.specs.Views.{fresh_in, packet_msg}
 use Rattle.sw_past.specs.Routes.{IsFair}
 use Rattle.sw_join.specs.Laws.{Aim, Ending}
-use Rattle.sw_reactor_laws.specs.Conn.{Conn, Answers, Does, Pushes, Moves, Stays, Leaves, Served, holds, stops, at_event, writes, serve, live_link, over_link}
-use Rattle.sw_reactor_laws.specs.Reactor.{Reactor, Ask, Take, Push, Nothing, Rest, Finished, all, each_conn, settled, settled_full, full_by, turned, rest_by, stayed, served_by, counted, ends_by, serves, chosen, turn, started, live_links, kept}
-use Rattle.sw_reactor_laws.specs.Quiet.{QuietOver, QuietLists, Quiet, QuietBy, QuietAfter, Grows, IsCaused, session_in, some_list, session_over, sessions}
-use Rattle.sw_reactor_laws.specs.Modes.{ModeLaws}
+use Rattle.sw_reactor_table.specs.Conn.{Conn, Answers, Does, Pushes, Moves, Stays, Leaves, Served, holds, stops, at_event, writes, serve, live_link, over_link}
+use Rattle.sw_reactor_table.specs.Reactor.{Reactor, Ask, Take, Push, Nothing, Rest, Finished, all, each_conn, settled, settled_full, full_by, turned, rest_by, stayed, served_by, counted, ends_by, serves, chosen, turn, started, live_links, kept}
+use Rattle.sw_reactor_table.specs.Quiet.{QuietOver, QuietLists, Quiet, QuietBy, QuietAfter, Grows, IsCaused, session_in, some_list, session_over, sessions}
+use Rattle.sw_reactor_table.specs.Modes.{ModeLaws}
 use Rattle.sw_reactor_laws.specs.Shows.{WasAsked}
-use Rattle.sw_reactor_laws.specs.Runs.{Called, TookOne, FoundNone, PushedOne, CameBack, NoCall, Runs, First, Then}
+use Rattle.sw_reactor_table.specs.Runs.{Called, TookOne, FoundNone, PushedOne, CameBack, NoCall, Runs, First, Then}
 use Rattle.sw_reactor_laws.specs.Round.{sum_of, sent_of}
 use Rattle.sw_reactor_laws.specs.Histories.{pushed_packet, counts_in, counted_in, at_first, at_served, leaves_with, frees, freed_in, told_uid, freed_by, freed_of, first_of, firsts}
-use Rattle.sw_reactor_laws.proofs.Flow.{more_of}
-use Rattle.sw_reactor_laws.proofs.Lift.{map_append}
-use Rattle.sw_reactor_laws.proofs.Known.{settled_over, turned_over}
-use Rattle.sw_reactor_laws.proofs.Law.{runs_quiet, map_same, at_session}
+use Rattle.sw_reactor_table.proofs.Flow.{more_of}
+use Rattle.sw_reactor_table.proofs.Lift.{map_append}
+use Rattle.sw_reactor_table.proofs.Known.{settled_over, turned_over}
+use Rattle.sw_reactor_table.proofs.Law.{runs_quiet, map_same, at_session}
 use Rattle.sw_reactor_laws.proofs.Rounded.{RoundOf, RoundBy, runs_round, sum_map}
-use Rattle.sw_reactor_laws.proofs.Members.{each_has, has_left, has_right, has_either, distinct_apart}
+use Rattle.sw_reactor_table.proofs.Members.{each_has, has_left, has_right, has_either, distinct_apart}
 
 -- a packet is counted as its push is noted
 called_packets : (r : Reactor) (took pushed later more : Mail) (got : Got Message) → Called r took pushed later more got → collect packet_msg (bare more) ≡ collect packet_msg (bare pushed) ++ counts_in got r.last

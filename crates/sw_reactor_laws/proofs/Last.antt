@@ -14,14 +14,14 @@ use Rattle.sw_past.specs.Past.{Mail, bare, with, of}
 use Rattle.sw_past.specs.Views.{no_more, fresh_in}
 use Rattle.sw_past.specs.Routes.{ToWorker}
 use Rattle.sw_join.specs.Drained.{LastMarked}
-use Rattle.sw_reactor_laws.specs.Conn.{Conn, Answers, Does, Pushes, Moves, Stays, Leaves, fresh, takes, stops, noted, holds, at_event, writes, serve}
-use Rattle.sw_reactor_laws.specs.Reactor.{Reactor, Ask, Take, Push, Nothing, Rest, Finished, all, each_conn, settled, settled_msg, settled_push, settled_full, pushed_by, full_by, turned, rest_by, stayed, served_by, counted, ends_by, serves, chosen, turn, started}
-use Rattle.sw_reactor_laws.specs.Runs.{Called, TookOne, FoundNone, PushedOne, CameBack, NoCall, Runs, First, Then}
+use Rattle.sw_reactor_table.specs.Conn.{Conn, Answers, Does, Pushes, Moves, Stays, Leaves, fresh, takes, stops, noted, holds, at_event, writes, serve}
+use Rattle.sw_reactor_table.specs.Reactor.{Reactor, Ask, Take, Push, Nothing, Rest, Finished, all, each_conn, settled, settled_msg, settled_push, settled_full, pushed_by, full_by, turned, rest_by, stayed, served_by, counted, ends_by, serves, chosen, turn, started}
+use Rattle.sw_reactor_table.specs.Runs.{Called, TookOne, FoundNone, PushedOne, CameBack, NoCall, Runs, First, Then}
 use Rattle.sw_reactor_laws.specs.Ending.{Counts, Chose, LinksFirst}
-use Rattle.sw_reactor_laws.proofs.Flow.{more_of}
-use Rattle.sw_reactor_laws.proofs.Settle.{lt_is, lt_not}
+use Rattle.sw_reactor_table.proofs.Flow.{more_of}
+use Rattle.sw_reactor_table.proofs.Settle.{lt_is, lt_not}
 use Rattle.sw_reactor_laws.proofs.Ending.{chosen_chose, call_counts, runs_counts}
-use Rattle.sw_reactor_laws.proofs.Law.{runs_straight}
+use Rattle.sw_reactor_table.proofs.Law.{runs_straight}
 
 -- no link behind a NoMore
 first_before : (ms : Mail) (x : ActorId × Message) → LinksFirst (ms ++ x ∷ []) → LinksFirst ms

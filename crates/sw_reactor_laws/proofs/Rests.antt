@@ -20,13 +20,13 @@ use Rattle.sw_record.specs.declared.record.LinkState.TheVariants.{Over}
 use Rattle.sw_record.specs.Terms.{Terms, session_of, packets_cut}
 use Rattle.sw_past.specs.Messages.{Message, FreshMsg, SendMsg, CloseMsg, ResetMsg, Bye, EventMsg, OverMsg, NoMore}
 use Rattle.sw_past.specs.Past.{Mail}
-use Rattle.sw_reactor_laws.specs.Conn.{Conn, Answers, Does, Pushes, Moves, Stays, Leaves, Served, fresh, sent, takes, stops, noted, holds, wrote, flushed_some, flushed, tidied, looked, place, pushes, plain, starve, read_by, cut_by, cuts_next, closes, can_leave, end_by, cause_by, connects, open_by, held_by, serve, account, over_link, writes}
-use Rattle.sw_reactor_laws.specs.Reactor.{Reactor, Ask, Take, Push, Nothing, Rest, Finished, all, each_conn, settled, counted, serves, chosen, started}
-use Rattle.sw_reactor_laws.specs.Runs.{Runs, First, Then}
+use Rattle.sw_reactor_table.specs.Conn.{Conn, Answers, Does, Pushes, Moves, Stays, Leaves, Served, fresh, sent, takes, stops, noted, holds, wrote, flushed_some, flushed, tidied, looked, place, pushes, plain, starve, read_by, cut_by, cuts_next, closes, can_leave, end_by, cause_by, connects, open_by, held_by, serve, account, over_link, writes}
+use Rattle.sw_reactor_table.specs.Reactor.{Reactor, Ask, Take, Push, Nothing, Rest, Finished, all, each_conn, settled, counted, serves, chosen, started}
+use Rattle.sw_reactor_table.specs.Runs.{Runs, First, Then}
 use Rattle.sw_reactor_laws.specs.Histories.{at_served, may_write, reads_at, writes_at, reads_in, writes_in}
 use Rattle.sw_reactor_laws.specs.Rests.{RestsOn, LinkRests}
-use Rattle.sw_reactor_laws.proofs.Known.{settled_over}
-use Rattle.sw_reactor_laws.proofs.Members.{has_left, has_right}
+use Rattle.sw_reactor_table.proofs.Known.{settled_over}
+use Rattle.sw_reactor_table.proofs.Members.{has_left, has_right}
 use Rattle.sw_reactor_laws.proofs.Everywhere.{Settled, Both, both_more, if_each, settled_each, served_both, ends_both, takes_both, around}
 
 -- of a connection that may have no cause

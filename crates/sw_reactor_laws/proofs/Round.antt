@@ -23,7 +23,7 @@ use Rattle.sw_past.specs.Past.{Mail, bare}
 use Rattle.sw_past.specs.Routes.{ToWorker, IsWorker}
 use Rattle.sw_past.specs.Views.{packet_msg}
 use Rattle.sw_join.proofs.Counts.{count_of, counts_least}
-use Rattle.sw_reactor_laws.specs.Conn.{cuts_next, starve, cutter, Conn, Answers, wrote, flushed_some, flushed, Does, Pushes, Moves, Stays, Leaves, Served, looked, place, pushes, plain, read_by, cut_by, closes, can_leave, end_by, cause_by, connects, open_by, held_by, tidied, serve}
+use Rattle.sw_reactor_table.specs.Conn.{cuts_next, starve, cutter, Conn, Answers, wrote, flushed_some, flushed, Does, Pushes, Moves, Stays, Leaves, Served, looked, place, pushes, plain, read_by, cut_by, closes, can_leave, end_by, cause_by, connects, open_by, held_by, tidied, serve}
 use Rattle.sw_reactor_laws.specs.Round.{sum_of, is_packet, at_worker, held_at, holds_at, cut_of, packets_at, Round}
 use Rattle.sw_frame.specs.Cutting.{next_of}
 

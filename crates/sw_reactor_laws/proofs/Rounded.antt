@@ -17,18 +17,18 @@ use Rattle.sw_past.specs.Messages.{Message, FreshMsg, SendMsg, CloseMsg, ResetMs
 use Rattle.sw_past.specs.Past.{Mail, bare, of, with}
 use Rattle.sw_past.specs.Routes.{IsFair}
 use Rattle.sw_past.specs.Views.{packet_msg}
-use Rattle.sw_reactor_laws.specs.Conn.{Conn, Answers, fresh, sent, takes, stops, noted, holds, at_event, writes, Does, Pushes, Moves, Stays, Leaves, Served, serve, over_link}
-use Rattle.sw_reactor_laws.specs.Reactor.{Reactor, Ask, Take, Push, Nothing, Rest, Finished, all, each_conn, settled, settled_msg, settled_push, settled_full, pushed_by, full_by, turned, rest_by, stayed, served_by, counted, ends_by, serves, chosen, started, live_links, kept}
-use Rattle.sw_reactor_laws.specs.Quiet.{QuietOver, QuietLists, Quiet, QuietBy, Grows, ServedBy, ServedRight, session_in, session_over}
-use Rattle.sw_reactor_laws.specs.Modes.{ModeLaws}
-use Rattle.sw_reactor_laws.specs.Runs.{Called, TookOne, FoundNone, PushedOne, CameBack, NoCall, Runs, First, Then}
+use Rattle.sw_reactor_table.specs.Conn.{Conn, Answers, fresh, sent, takes, stops, noted, holds, at_event, writes, Does, Pushes, Moves, Stays, Leaves, Served, serve, over_link}
+use Rattle.sw_reactor_table.specs.Reactor.{Reactor, Ask, Take, Push, Nothing, Rest, Finished, all, each_conn, settled, settled_msg, settled_push, settled_full, pushed_by, full_by, turned, rest_by, stayed, served_by, counted, ends_by, serves, chosen, started, live_links, kept}
+use Rattle.sw_reactor_table.specs.Quiet.{QuietOver, QuietLists, Quiet, QuietBy, Grows, ServedBy, ServedRight, session_in, session_over}
+use Rattle.sw_reactor_table.specs.Modes.{ModeLaws}
+use Rattle.sw_reactor_table.specs.Runs.{Called, TookOne, FoundNone, PushedOne, CameBack, NoCall, Runs, First, Then}
 use Rattle.sw_reactor_laws.specs.Shows.{EndsAllCut}
 use Rattle.sw_reactor_laws.specs.Round.{sum_of, is_packet, at_worker, held_at, holds_at, taken_of, sent_of, cut_of, packets_at, Round}
-use Rattle.sw_reactor_laws.proofs.Flow.{more_of}
-use Rattle.sw_reactor_laws.proofs.Lift.{Aim, Ending, perm_front, lists_perm, others_not, map_append, map_at}
-use Rattle.sw_reactor_laws.proofs.Serve.{serve_right}
-use Rattle.sw_reactor_laws.proofs.Law.{call_quiet, call_fair, runs_quiet, runs_straight}
-use Rattle.sw_reactor_laws.proofs.Turn.{started_quiet}
+use Rattle.sw_reactor_table.proofs.Flow.{more_of}
+use Rattle.sw_reactor_table.proofs.Lift.{Aim, Ending, perm_front, lists_perm, others_not, map_append, map_at}
+use Rattle.sw_reactor_table.proofs.Serve.{serve_right}
+use Rattle.sw_reactor_table.proofs.Law.{call_quiet, call_fair, runs_quiet, runs_straight}
+use Rattle.sw_reactor_table.proofs.Turn.{started_quiet}
 use Rattle.sw_reactor_laws.proofs.Round.{rounds_more, turns, one_if, Fits, RoundServed, serve_round, round_whole}
 
 -- sums

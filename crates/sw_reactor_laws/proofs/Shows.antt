@@ -13,19 +13,19 @@ use Rattle.sw_past.specs.Past.{Mail, bare}
 use Rattle.sw_past.specs.Views.{fresh_in}
 use Rattle.sw_past.specs.Routes.{IsFair}
 use Rattle.sw_join.specs.Modes.{AimOf, EndOf}
-use Rattle.sw_reactor_laws.specs.Conn.{Conn, live_link}
-use Rattle.sw_reactor_laws.specs.Reactor.{Reactor, Finished, all, live_links, kept}
-use Rattle.sw_reactor_laws.specs.Quiet.{Quiet, QuietBy, session_in, session_over, sessions, some_list}
-use Rattle.sw_reactor_laws.specs.Runs.{Runs, Known, TellsUid}
+use Rattle.sw_reactor_table.specs.Conn.{Conn, live_link}
+use Rattle.sw_reactor_table.specs.Reactor.{Reactor, Finished, all, live_links, kept}
+use Rattle.sw_reactor_table.specs.Quiet.{Quiet, QuietBy, session_in, session_over, sessions, some_list}
+use Rattle.sw_reactor_table.specs.Runs.{Runs, Known, TellsUid}
 use Rattle.sw_reactor_laws.specs.Stopped.{CalmLink, stop_read}
 use Rattle.sw_reactor_laws.specs.Histories.{freed_in, freed_of, firsts, reads_in, writes_in}
 use Rattle.sw_reactor_laws.specs.Rests.{LinkRests}
 use Rattle.sw_reactor_laws.specs.Shows.{WasAsked, HasSession, IsEnd, EndsAllCut, TellsWord, ReactorMore, ReactorDone}
-use Rattle.sw_reactor_laws.proofs.Members.{has_right, each_has}
-use Rattle.sw_reactor_laws.proofs.Grows.{fit_grows}
-use Rattle.sw_reactor_laws.proofs.Final.{mode_laws}
-use Rattle.sw_reactor_laws.proofs.Known.{runs_known, runs_over}
-use Rattle.sw_reactor_laws.proofs.Law.{runs_quiet}
+use Rattle.sw_reactor_table.proofs.Members.{has_right, each_has}
+use Rattle.sw_reactor_table.proofs.Grows.{fit_grows}
+use Rattle.sw_reactor_table.proofs.Final.{mode_laws}
+use Rattle.sw_reactor_table.proofs.Known.{runs_known, runs_over}
+use Rattle.sw_reactor_table.proofs.Law.{runs_quiet}
 use Rattle.sw_reactor_laws.proofs.Stopped.{AllCalm, runs_calm}
 use Rattle.sw_reactor_laws.proofs.Rests.{AllRest, runs_rest}
 use Rattle.sw_reactor_laws.proofs.Ending.{runs_counts, finished_ends, finished_over, settled_kept}

@@ -9,18 +9,19 @@ use Rattle.sw_data.specs.declared.messages.Got.TheVariants.{Start, Took, Empty, 
 use Rattle.sw_link.specs.declared.link.LinkWrite.TheVariants as writing
 use Rattle.sw_data.specs.declared.messages.Got.TheVariants as gots
 use Rattle.sw_lists.specs.Lists.{Each}
-use Rattle.sw_lists.proofs.Lists.{each_append, each_left, each_right}
+use Rattle.sw_lists.proofs.Lists.{each_right}
 use Rattle.sw_record.specs.Words.{Event, Connect, Packet, Closed, Finish, Task, Cause, TooLong, BadLength, Stop, NoMemory, Overflow, ServerClose, ResetCause, Ended}
 use Rattle.sw_record.specs.declared.record.LinkState.TheVariants.{Over}
 use Rattle.sw_record.specs.declared.record.LinkRecord.{LinkRecord}
 use Rattle.sw_record.specs.Terms.{Terms, packets_cut}
 use Rattle.sw_past.specs.Messages.{Message, FreshMsg, SendMsg, CloseMsg, ResetMsg, Bye, EventMsg, OverMsg, NoMore}
 use Rattle.sw_past.specs.Past.{Mail}
-use Rattle.sw_reactor_laws.specs.Conn.{cuts_next, starve, Conn, Answers, fresh, sent, takes, stops, noted, holds, at_event, wrote, flushed_some, flushed, writes, Does, Pushes, Moves, Stays, Leaves, Served, looked, place, pushes, plain, read_by, cut_by, closes, can_leave, end_by, cause_by, connects, open_by, held_by, tidied, serve, account, over_link}
-use Rattle.sw_reactor_laws.specs.Reactor.{Reactor, Ask, Take, Push, Nothing, Rest, Finished, all, each_conn, settled, settled_msg, settled_push, settled_full, pushed_by, full_by, turned, stayed, served_by, counted, ends_by, serves, chosen, turn, started}
-use Rattle.sw_reactor_laws.specs.Runs.{Runs, First, Then}
+use Rattle.sw_reactor_table.specs.Conn.{cuts_next, starve, Conn, Answers, fresh, sent, takes, stops, noted, holds, at_event, wrote, flushed_some, flushed, writes, Does, Pushes, Moves, Stays, Leaves, Served, looked, place, pushes, plain, read_by, cut_by, closes, can_leave, end_by, cause_by, connects, open_by, held_by, tidied, serve, account, over_link}
+use Rattle.sw_reactor_table.specs.Reactor.{Reactor, Ask, Take, Push, Nothing, Rest, Finished, all, each_conn, settled, settled_msg, settled_push, settled_full, pushed_by, full_by, turned, stayed, served_by, counted, ends_by, serves, chosen, turn, started}
+use Rattle.sw_reactor_table.specs.Runs.{Runs, First, Then}
 use Rattle.sw_reactor_laws.specs.Stopped.{CalmOf, Calm, CalmLink, stop_at, stop_read}
-use Rattle.sw_reactor_laws.proofs.Known.{settled_over, turned_over}
+use Rattle.sw_reactor_table.proofs.Known.{settled_over}
+use Rattle.sw_reactor_laws.proofs.Everywhere.{Settled, Both, if_each, settled_each, served_both, ends_both, around}
 use Rattle.sw_frame.specs.Cutting.{next_by, next_rest}
 use Rattle.sw_frame.specs.Cut.{cut}
 use Rattle.sw_cut.specs.declared.First.{First as FirstOf}
@@ -140,145 +141,51 @@ fresh_calm : (b : Bool) (starved : Bool) → CalmOf b (if starved then Some NoMe
 fresh_calm b true = λ e. absurd (cc)
 fresh_calm b false = λ e. absurd (cc)
 
--- changes of all connections
-map_calm : (b : Bool) (f : Conn → Conn) → ((c : Conn) → Calm b c → Calm b (f c)) → (cs : List Conn) → Each (Calm b) cs → Each (Calm b) (map f cs)
-map_calm b f k [] h = tt
-map_calm b f k (c ∷ cs) h = (k c h.0, map_calm b f k cs h.1)
-
-each_calm : (b : Bool) (f : Conn → Conn) → ((c : Conn) → Calm b c → Calm b (f c)) → (r : Reactor) → Each (Calm b) (all r) → Each (Calm b) (map f r.done ++ map f r.next)
-each_calm b f k r h = each_append (Calm b) (map f r.done) (map f r.next) (map_calm b f k r.done (each_left (Calm b) r.done r.next h)) (map_calm b f k r.next (each_right (Calm b) r.done r.next h))
-
-if_calm : (b : Bool) (x : Bool) (c d : Conn) → Calm b c → Calm b d → Calm b (if x then d else c)
-if_calm b true c d h k = k
-if_calm b false c d h k = h
-
-takes_calm : (b : Bool) (t : Terms) (starved : Bool) (m : Message) (c : Conn) → Calm b c → Calm b (takes t starved m c)
-takes_calm b t starved (FreshMsg ip s) c h = h
-takes_calm b t starved (SendMsg s p) c h = if_calm b (c.session == s) c (sent t starved p c) h (sends (is_hard c.cause) (nat_lt t.buffer_size (length c.unsent + length p)) starved)
+-- what settles keeps it
+settled_calm : (b : Bool) (t : Terms) → Settled t (Calm b)
+settled_calm b t = record { comes = λ starved ip s. fresh_calm b starved; taken = takes_calm; pushed = noted_calm; held = λ w e c h. h }
   where
-    sends : (x y z : Bool) → Calm b (if x then c else (if y then record c { cause = Some (Overflow (length c.unsent + length p)) } else (if z then record c { cause = Some NoMemory } else record c { unsent = c.unsent ++ p })))
-    sends true y z = h
-    sends false true z = λ e. absurd (cc)
-    sends false false true = λ e. absurd (cc)
-    sends false false false = h
-takes_calm b t starved (CloseMsg s) c h = if_calm b (c.session == s) c (record c { cause = set_soft ServerClose c.cause }) h (soft_calm b c.cause h)
-takes_calm b t starved (ResetMsg s) c h = if_calm b (c.session == s) c (record c { cause = set_hard ResetCause c.cause }) h (hard_calm b c.cause h)
-takes_calm b t starved (Bye s) c h = if_calm b (c.session == s) c (record c { awaited = c.awaited - 1 }) h h
-takes_calm b t starved (EventMsg e) c h = h
-takes_calm b t starved (OverMsg id) c h = h
-takes_calm b t starved NoMore c h = h
+    takes_calm : (starved : Bool) (m : Message) (c : Conn) → Calm b c → Calm b (takes t starved m c)
+    takes_calm starved (FreshMsg ip s) c h = h
+    takes_calm starved (SendMsg s p) c h = if_each (Calm b) (c.session == s) c (sent t starved p c) h (sends (is_hard c.cause) (nat_lt t.buffer_size (length c.unsent + length p)) starved)
+      where
+        sends : (x y z : Bool) → Calm b (if x then c else (if y then record c { cause = Some (Overflow (length c.unsent + length p)) } else (if z then record c { cause = Some NoMemory } else record c { unsent = c.unsent ++ p })))
+        sends true y z = h
+        sends false true z = λ e. absurd (cc)
+        sends false false true = λ e. absurd (cc)
+        sends false false false = h
+    takes_calm starved (CloseMsg s) c h = if_each (Calm b) (c.session == s) c (record c { cause = set_soft ServerClose c.cause }) h (soft_calm b c.cause h)
+    takes_calm starved (ResetMsg s) c h = if_each (Calm b) (c.session == s) c (record c { cause = set_hard ResetCause c.cause }) h (hard_calm b c.cause h)
+    takes_calm starved (Bye s) c h = if_each (Calm b) (c.session == s) c (record c { awaited = c.awaited - 1 }) h h
+    takes_calm starved (EventMsg e) c h = h
+    takes_calm starved (OverMsg id) c h = h
+    takes_calm starved NoMore c h = h
 
-at_calm : (b : Bool) (f : Conn → Conn) (e : Event) → ((c : Conn) → Calm b c → Calm b (f c)) → (c : Conn) → Calm b c → Calm b (at_event f e c)
-at_calm b f (Connect s) k c h = if_calm b (c.session == s) c (f c) h (k c h)
-at_calm b f (Packet s i p) k c h = if_calm b (c.session == s) c (f c) h (k c h)
-at_calm b f (Closed s) k c h = if_calm b (c.session == s) c (f c) h (k c h)
-at_calm b f (Finish id p) k c h = h
-at_calm b f (Task v id p) k c h = h
-
-noted_calm : (b : Bool) (t : Terms) (e : Event) (c : Conn) → Calm b c → Calm b (noted t e c)
-noted_calm b t (Connect s) c h = h
-noted_calm b t (Packet s i p) c h = h
-noted_calm b t (Closed s) c h = h
-noted_calm b t (Finish id p) c h = h
-noted_calm b t (Task v id p) c h = h
-
-msg_calm : (b : Bool) (t : Terms) (starved : Bool) (m : Message) (r : Reactor) → Each (Calm b) (all r) → Each (Calm b) (all (settled_msg t starved m r))
-msg_calm b t starved (FreshMsg ip s) r h = subst (Each (Calm b)) (append_assoc r.done r.next (fresh starved ip s ∷ [])) (each_append (Calm b) (all r) (fresh starved ip s ∷ []) h (fresh_calm b starved, tt))
-msg_calm b t starved (SendMsg s p) r h = each_calm b (takes t starved (SendMsg s p)) (takes_calm b t starved (SendMsg s p)) r h
-msg_calm b t starved (CloseMsg s) r h = each_calm b (takes t starved (CloseMsg s)) (takes_calm b t starved (CloseMsg s)) r h
-msg_calm b t starved (ResetMsg s) r h = each_calm b (takes t starved (ResetMsg s)) (takes_calm b t starved (ResetMsg s)) r h
-msg_calm b t starved (Bye s) r h = each_calm b (takes t starved (Bye s)) (takes_calm b t starved (Bye s)) r h
-msg_calm b t starved (EventMsg e) r h = h
-msg_calm b t starved (OverMsg id) r h = h
-msg_calm b t starved NoMore r h = h
-
-push_calm : (b : Bool) (t : Terms) (m : Message) (r : Reactor) → Each (Calm b) (all r) → Each (Calm b) (all (settled_push t m r))
-push_calm b t (FreshMsg ip s) r h = h
-push_calm b t (SendMsg s p) r h = h
-push_calm b t (CloseMsg s) r h = h
-push_calm b t (ResetMsg s) r h = h
-push_calm b t (Bye s) r h = h
-push_calm b t (EventMsg e) r h = each_calm b (at_event (noted t e) e) (at_calm b (noted t e) e (noted_calm b t e)) r h
-push_calm b t (OverMsg id) r h = h
-push_calm b t NoMore r h = h
-
-full_calm : (b : Bool) (t : Terms) (w : ℕ) (m : Message) (r : Reactor) → Each (Calm b) (all r) → Each (Calm b) (all (settled_full w m r))
-full_calm b t w (FreshMsg ip s) r h = h
-full_calm b t w (SendMsg s p) r h = h
-full_calm b t w (CloseMsg s) r h = h
-full_calm b t w (ResetMsg s) r h = h
-full_calm b t w (Bye s) r h = h
-full_calm b t w (EventMsg e) r h = each_calm b (at_event (holds w e) e) (at_calm b (holds w e) e (λ c k. k)) r h
-full_calm b t w (OverMsg id) r h = h
-full_calm b t w NoMore r h = h
-
--- what is settled
-pushed_calm : (b : Bool) (t : Terms) (ask : Ask) (r : Reactor) → Each (Calm b) (all r) → Each (Calm b) (all (pushed_by t ask r))
-pushed_calm b t Take r h = h
-pushed_calm b t (Push w m) r h = push_calm b t m r h
-pushed_calm b t Nothing r h = h
-pushed_calm b t Rest r h = h
-pushed_calm b t Finished r h = h
-
-back_calm : (b : Bool) (t : Terms) (ask : Ask) (m : Message) (r : Reactor) → Each (Calm b) (all r) → Each (Calm b) (all (full_by ask m r))
-back_calm b t Take m r h = h
-back_calm b t (Push w x) m r h = full_calm b t w m r h
-back_calm b t Nothing m r h = h
-back_calm b t Rest m r h = h
-back_calm b t Finished m r h = h
-
-settled_calm : (b : Bool) (t : Terms) (starved : Bool) (got : Got Message) (r : Reactor) → Each (Calm b) (all r) → Each (Calm b) (all (settled t starved got r))
-settled_calm b t starved Start r h = h
-settled_calm b t starved (Took m) r h = msg_calm b t starved m (record r { empty = false }) h
-settled_calm b t starved Empty r h = h
-settled_calm b t starved Pushed r h = pushed_calm b t r.last r h
-settled_calm b t starved (Full m) r h = back_calm b t r.last m r h
-settled_calm b t starved gots.Nothing r h = h
+    noted_calm : (e : Event) (c : Conn) → Calm b c → Calm b (noted t e c)
+    noted_calm (Connect s) c h = h
+    noted_calm (Packet s i p) c h = h
+    noted_calm (Closed s) c h = h
+    noted_calm (Finish id p) c h = h
+    noted_calm (Task v id p) c h = h
 
 -- what is chosen, with the stop word read or not
-turned_calm : (b : Bool) (done cs : List Conn) (r : Reactor) → Each (Calm b) (done ++ cs) → Each (Calm b) (all (turned done cs r))
-turned_calm b done [] r h = subst (Each (Calm b)) (append-nil done) h
-turned_calm b done (c ∷ cs) r h = h
+abbrev pub AllCalm : Bool → Reactor → Type 0
+AllCalm b r = Both (Calm b) (CalmLink b) r
 
-pub record AllCalm (b : Bool) (r : Reactor) : Type 0 where
-  pub conns : Each (Calm b) (all r)
-  pub over : Each (CalmLink b) r.over
-
-served_calm : (b : Bool) (t : Terms) (a : Answers) (moved : Bool) (cs : List Conn) (d : Conn) (o : Does) (r : Reactor) → Each (Calm b) ((r.done ++ d ∷ []) ++ cs) → Each (Calm b) (r.done ++ cs) → ((e : Cause) → o ≡ Leaves e → CalmOf b (Some e)) → Each (CalmLink b) r.over → AllCalm b (served_by t a moved cs d o r)
-served_calm b t a moved cs d (Pushes w e) r h g l v = record { conns = turned_calm b (r.done ++ d ∷ []) cs r h; over = subst (Each (CalmLink b)) (sym (turned_over (r.done ++ d ∷ []) cs r)) v }
-served_calm b t a moved cs d Moves r h g l v = record { conns = turned_calm b (r.done ++ d ∷ []) cs r h; over = subst (Each (CalmLink b)) (sym (turned_over (r.done ++ d ∷ []) cs r)) v }
-served_calm b t a moved cs d Stays r h g l v = pick moved
-  where
-    pick : (x : Bool) → AllCalm b (if x then record (turned (r.done ++ d ∷ []) cs r) { last = Nothing; still = 0 } else stayed (length (r.done ++ d ∷ cs)) (turned (r.done ++ d ∷ []) cs r))
-    pick true = record { conns = turned_calm b (r.done ++ d ∷ []) cs r h; over = subst (Each (CalmLink b)) (sym (turned_over (r.done ++ d ∷ []) cs r)) v }
-    pick false = record { conns = turned_calm b (r.done ++ d ∷ []) cs r h; over = subst (Each (CalmLink b)) (sym (turned_over (r.done ++ d ∷ []) cs r)) v }
-served_calm b t a moved cs d (Leaves e) r h g l v = record { conns = turned_calm b r.done cs r g; over = each_append (CalmLink b) r.over (over_link t d a.released e ∷ []) v (tells, tt) }
+over_calm : (b : Bool) (t : Terms) (d : Conn) (u : ℕ) (e : Cause) → CalmOf b (Some e) → CalmLink b (over_link t d u e)
+over_calm b t d u e l x q z = l (ap Some (ap (λ (y : Ended). y.cause) (ends_same (account t d u e) x q) ∙ z))
   where
     ends_same : (x y : Ended) → Over x ≡ Over y → x ≡ y
     ends_same x y q = cc
 
-    tells : CalmLink b (over_link t d a.released e)
-    tells x q z = l e refl (ap Some (ap (λ (y : Ended). y.cause) (ends_same (account t d a.released e) x q) ∙ z))
-
-ends_calm : (b : Bool) (t : Terms) (r : Reactor) → AllCalm b r → AllCalm b (ends_by t r)
-ends_calm b t r h = pick (nat_lt 0 r.ends) (nat_lt r.given t.worker_num) (r.ends == 1 + t.worker_num + t.tasker_num)
-  where
-    pick : (x y z : Bool) → AllCalm b (if x then (if y then record r { last = Push r.given NoMore } else (if z then record r { last = Finished } else record r { last = Rest })) else record r { last = Rest })
-    pick true true z = record { conns = h.conns; over = h.over }
-    pick true false true = record { conns = h.conns; over = h.over }
-    pick true false false = record { conns = h.conns; over = h.over }
-    pick false y z = record { conns = h.conns; over = h.over }
-
 serves_calm : (b : Bool) (t : Terms) (a : Answers) (r : Reactor) → (next : List Conn) → r.next ≡ next → AllCalm b r → AllCalm b (serves t a next r)
-serves_calm b t a r [] e h = ends_calm b t r h
+serves_calm b t a r [] e h = ends_both (Calm b) (CalmLink b) t r h
 serves_calm b t a r (c ∷ cs) e h =
     let v : Served = serve t a r.round c in
-    let front : Each (Calm b) r.done = each_left (Calm b) r.done r.next h.conns in
-    let back : Each (Calm b) (c ∷ cs) = subst (Each (Calm b)) e (each_right (Calm b) r.done r.next h.conns) in
-    let s : CalmServed b v = serve_calm b t a r.round c back.0 in
-    served_calm b t a (writes a.write c) cs v.conn v.does (record r { round = counted v.cuts r.round })
-      (each_append (Calm b) (r.done ++ v.conn ∷ []) cs (each_append (Calm b) r.done (v.conn ∷ []) front (s.conn, tt)) back.1)
-      (each_append (Calm b) r.done cs front back.1) s.leaves h.over
+    let here : Each (Calm b) (r.done ++ c ∷ cs) = subst (λ (zs : List Conn). Each (Calm b) (r.done ++ zs)) e h.conns in
+    let s : CalmServed b v = serve_calm b t a r.round c (each_right (Calm b) r.done (c ∷ cs) here).0 in
+    let sides = around (Calm b) (Calm b) r.done cs c v.conn (λ d k. k) here s.conn in
+    served_both (Calm b) (CalmLink b) t a (writes a.write c) cs v.conn v.does (record r { round = counted v.cuts r.round }) sides.0 sides.1 (λ x q. over_calm b t v.conn a.released x (s.leaves x q)) h.over
 
 -- one more turn
 conns_true : (cs : List Conn) → Each (Calm true) cs
@@ -310,4 +217,4 @@ runs_calm t word _ _ _ (First starved a f) = subst (λ (x : Bool). AllCalm x (tu
 runs_calm t word _ _ _ (Then {took = took} {pushed = pushed} {r = r} before later more got call starved a f) =
     let h : AllCalm (stop_read before) r = runs_calm t word took pushed r before in
     chosen_calm (stop_read before) t a (settled t starved got r)
-      (record { conns = settled_calm (stop_read before) t starved got r h.conns; over = subst (Each (CalmLink (stop_read before))) (sym (settled_over t starved got r)) h.over }) r.last
+      (record { conns = settled_each t (Calm (stop_read before)) (settled_calm (stop_read before) t) starved got r h.conns; over = subst (Each (CalmLink (stop_read before))) (sym (settled_over t starved got r)) h.over }) r.last

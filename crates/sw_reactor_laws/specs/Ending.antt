@@ -6,7 +6,7 @@ use Rattle.sw_record.specs.Terms.{Terms}
 use Rattle.sw_past.specs.Messages.{Message, FreshMsg, SendMsg, CloseMsg, ResetMsg, Bye, EventMsg, OverMsg, NoMore}
 use Rattle.sw_past.specs.Past.{Mail, bare, of}
 use Rattle.sw_past.specs.Views.{no_more, fresh_in}
-use Rattle.sw_reactor_laws.specs.Reactor.{Reactor, Ask, Take, Push, Nothing, Rest, Finished, all}
+use Rattle.sw_reactor_table.specs.Reactor.{Reactor, Ask, Take, Push, Nothing, Rest, Finished, all}
 
 -- with nothing on its way
 pub record Counts (t : Terms) (took pushed : Mail) (r : Reactor) : Type 0 where

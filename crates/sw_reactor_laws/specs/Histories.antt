@@ -17,10 +17,10 @@ use Rattle.sw_record.specs.Terms.{Terms}
 use Rattle.sw_past.specs.Messages.{Message}
 use Rattle.sw_past.specs.Past.{Mail}
 use Rattle.sw_past.specs.Views.{packet_msg}
-use Rattle.sw_reactor_laws.specs.Conn.{Conn, Answers, Does, Pushes, Moves, Stays, Leaves, serve}
-use Rattle.sw_reactor_laws.specs.Reactor.{Reactor, Ask, Take, Push, Nothing, Rest, Finished, settled}
-use Rattle.sw_reactor_laws.specs.Quiet.{some_list}
-use Rattle.sw_reactor_laws.specs.Runs.{Runs, First, Then}
+use Rattle.sw_reactor_table.specs.Conn.{Conn, Answers, Does, Pushes, Moves, Stays, Leaves, serve}
+use Rattle.sw_reactor_table.specs.Reactor.{Reactor, Ask, Take, Push, Nothing, Rest, Finished, settled}
+use Rattle.sw_reactor_table.specs.Quiet.{some_list}
+use Rattle.sw_reactor_table.specs.Runs.{Runs, First, Then}
 
 -- a packet that is asked to be pushed
 abbrev pub pushed_packet : Ask → List ℕ

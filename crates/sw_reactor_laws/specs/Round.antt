@@ -9,7 +9,7 @@ use Rattle.sw_record.specs.Rounds.{rounds}
 use Rattle.sw_record.specs.Counts.{total}
 use Rattle.sw_past.specs.Past.{Mail, bare, of}
 use Rattle.sw_past.specs.Views.{packet_msg}
-use Rattle.sw_reactor_laws.specs.Conn.{Conn}
+use Rattle.sw_reactor_table.specs.Conn.{Conn}
 
 abbrev pub sum_of : {A : Type 0} → (A → ℕ) → List A → ℕ
 sum_of f [] = 0

@@ -14,9 +14,9 @@ use Rattle.sw_record.specs.declared.record.LinkState.TheVariants.{Live, Over}
 use Rattle.sw_past.specs.Past.{Mail, bare, of}
 use Rattle.sw_past.specs.Views.{fresh_in, fresh_of, no_more}
 use Rattle.sw_join.specs.Drained.{LastMarked}
-use Rattle.sw_reactor_laws.specs.Reactor.{Reactor, kept}
-use Rattle.sw_reactor_laws.specs.Quiet.{IsCaused, session_over}
-use Rattle.sw_reactor_laws.specs.Runs.{Runs}
+use Rattle.sw_reactor_table.specs.Reactor.{Reactor, kept}
+use Rattle.sw_reactor_table.specs.Quiet.{IsCaused, session_over}
+use Rattle.sw_reactor_table.specs.Runs.{Runs}
 use Rattle.sw_reactor_laws.specs.Ending.{LinksFirst}
 use Rattle.sw_reactor_laws.specs.Stopped.{CalmLink, stop_read}
 use Rattle.sw_reactor_laws.specs.Round.{packets_at}

@@ -5,9 +5,9 @@ use Rattle.sw_record.specs.declared.record.LinkState.TheVariants.{Over}
 use Rattle.sw_record.specs.declared.record.LinkRecord.{LinkRecord}
 use Rattle.sw_record.specs.Terms.{Terms}
 use Rattle.sw_past.specs.Past.{Mail}
-use Rattle.sw_reactor_laws.specs.Conn.{Conn}
-use Rattle.sw_reactor_laws.specs.Reactor.{Reactor, Ask, Take, Push, Nothing, Rest, Finished}
-use Rattle.sw_reactor_laws.specs.Runs.{Runs, First, Then}
+use Rattle.sw_reactor_table.specs.Conn.{Conn}
+use Rattle.sw_reactor_table.specs.Reactor.{Reactor, Ask, Take, Push, Nothing, Rest, Finished}
+use Rattle.sw_reactor_table.specs.Runs.{Runs, First, Then}
 
 -- a cause is Stop only there
 abbrev pub CalmOf : Bool → Option Cause → Type 0

@@ -18,10 +18,10 @@ use Rattle.sw_past.specs.Views.{story_in, due}
 use Rattle.sw_join.specs.Laws.{streams, LastDue}
 use Rattle.sw_join.specs.Aims.{packets_from, story, KeptAim, KeptEnd}
 use Rattle.sw_join.proofs.Routes.{one_sender, other_sender}
-use Rattle.sw_reactor_laws.specs.Conn.{Conn}
-use Rattle.sw_reactor_laws.specs.Quiet.{told_by, IsAimed, IsPhase, Tale, TaleOf, IsOver}
-use Rattle.sw_reactor_laws.specs.Modes.{ModeLaws}
-use Rattle.sw_reactor_laws.proofs.Tale.{own_closed}
+use Rattle.sw_reactor_table.specs.Conn.{Conn}
+use Rattle.sw_reactor_table.specs.Quiet.{told_by, IsAimed, IsPhase, Tale, TaleOf, IsOver}
+use Rattle.sw_reactor_table.specs.Modes.{ModeLaws}
+use Rattle.sw_reactor_table.proofs.Tale.{own_closed}
 
 -- modes 2 and 4: to the target alone
 abbrev AimedAt : Terms → ℕ → ℕ → ActorId × Message → Type 0

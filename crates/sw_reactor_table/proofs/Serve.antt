@@ -22,11 +22,11 @@ use Rattle.sw_record.specs.Order.{target, side}
 use Rattle.sw_past.specs.Messages.{EventMsg}
 use Rattle.sw_past.specs.Past.{Mail, bare}
 use Rattle.sw_past.specs.Views.{due, due_in}
-use Rattle.sw_reactor_laws.specs.Conn.{cuts_next, starve, Conn, Answers, noted, wrote, flushed_some, flushed, cleared, Pushes, Stays, Leaves, sees, idle_or, place, pushes, plain, read_by, cut_by, closes, can_leave, end_by, cause_by, connects, open_by, held_by, tidied, serve}
-use Rattle.sw_reactor_laws.specs.Quiet.{IsCaused, Flows, Tale, FlowsOf, TaleOf, HeldOf, ReadyOf, HasCause, IsPhase, IsNext, IsHeld, IsSided, QuietConn, IsOf, ServedBy, ServedRight, IsIdle, Grows, dues, side_of}
-use Rattle.sw_reactor_laws.proofs.Flow.{more_of, flow_soft, flow_hard, flow_dues, flow_wrote}
-use Rattle.sw_reactor_laws.proofs.Tale.{tale_push, tale_cause, held_cause, held_drop, tale_piece, tale_taken, tale_sees, next_of_session, own_event}
-use Rattle.sw_reactor_laws.proofs.Settle.{hard_now}
+use Rattle.sw_reactor_table.specs.Conn.{cuts_next, starve, Conn, Answers, noted, wrote, flushed_some, flushed, cleared, Pushes, Stays, Leaves, sees, idle_or, place, pushes, plain, read_by, cut_by, closes, can_leave, end_by, cause_by, connects, open_by, held_by, tidied, serve}
+use Rattle.sw_reactor_table.specs.Quiet.{IsCaused, Flows, Tale, FlowsOf, TaleOf, HeldOf, ReadyOf, HasCause, IsPhase, IsNext, IsHeld, IsSided, QuietConn, IsOf, ServedBy, ServedRight, IsIdle, Grows, dues, side_of}
+use Rattle.sw_reactor_table.proofs.Flow.{more_of, flow_soft, flow_hard, flow_dues, flow_wrote}
+use Rattle.sw_reactor_table.proofs.Tale.{tale_push, tale_cause, held_cause, held_drop, tale_piece, tale_taken, tale_sees, next_of_session, own_event}
+use Rattle.sw_reactor_table.proofs.Settle.{hard_now}
 use Rattle.sw_frame.specs.Cutting.{next_by, next_rest}
 use Rattle.sw_frame.specs.Cut.{cut}
 use Rattle.sw_cut.specs.declared.First.{First}

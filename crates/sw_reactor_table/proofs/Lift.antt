@@ -15,13 +15,13 @@ use Rattle.sw_past.specs.Messages.{Message, FreshMsg, EventMsg}
 use Rattle.sw_past.specs.Past.{Mail, bare}
 use Rattle.sw_past.specs.Views.{story_in, fresh_in, due_in}
 use Rattle.sw_past.specs.Routes.{MayTell, MayPush, IsFair}
-use Rattle.sw_reactor_laws.specs.Conn.{Conn, fresh, at_event, account, over_link}
-use Rattle.sw_reactor_laws.specs.Quiet.{IsCaused, Flows, IsAimed, QuietConn, QuietOver, QuietLists, IsOf, IsOver, session_in, some_list, session_over, sessions, dues}
-use Rattle.sw_reactor_laws.specs.Modes.{ModeLaws, IsReleased}
-use Rattle.sw_reactor_laws.proofs.Flow.{more_of, why_more}
-use Rattle.sw_reactor_laws.proofs.Tale.{tale_skip, undue_in, other_story}
-use Rattle.sw_reactor_laws.proofs.Settle.{plain_keeps}
-use Rattle.sw_reactor_laws.proofs.Kept.{kept_took, kept_pushed, over_kept, dues_skip}
+use Rattle.sw_reactor_table.specs.Conn.{Conn, fresh, at_event, account, over_link}
+use Rattle.sw_reactor_table.specs.Quiet.{IsCaused, Flows, IsAimed, QuietConn, QuietOver, QuietLists, IsOf, IsOver, session_in, some_list, session_over, sessions, dues}
+use Rattle.sw_reactor_table.specs.Modes.{ModeLaws, IsReleased}
+use Rattle.sw_reactor_table.proofs.Flow.{more_of, why_more}
+use Rattle.sw_reactor_table.proofs.Tale.{tale_skip, undue_in, other_story}
+use Rattle.sw_reactor_table.proofs.Settle.{plain_keeps}
+use Rattle.sw_reactor_table.proofs.Kept.{kept_took, kept_pushed, over_kept, dues_skip}
 
 abbrev pub Aim : Type 1
 Aim = ℕ → LinkRecord → Mail → Type 0

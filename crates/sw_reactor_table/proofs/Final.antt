@@ -3,17 +3,17 @@ use Rattle.std.proofs.Common.{◌≡◌, ℕ, ◌<◌, ◌==◌, Bool, true, fal
 use Rattle.sw_lists.proofs.Lists.{eq_is}
 use Rattle.sw_record.specs.Terms.{Terms, keeps}
 use Rattle.sw_past.specs.Past.{Mail}
-use Rattle.sw_reactor_laws.specs.Reactor.{Reactor}
-use Rattle.sw_reactor_laws.specs.Modes.{ModeLaws}
-use Rattle.sw_reactor_laws.specs.Runs.{Runs}
-use Rattle.sw_reactor_laws.proofs.Law.{reactor_law, called_law, settled_law}
-use Rattle.sw_reactor_laws.proofs.Aimed.{kept_laws}
-use Rattle.sw_reactor_laws.proofs.Uids.{uid_laws}
-use Rattle.sw_reactor_laws.proofs.Scattered.{scatter_laws}
+use Rattle.sw_reactor_table.specs.Reactor.{Reactor}
+use Rattle.sw_reactor_table.specs.Modes.{ModeLaws}
+use Rattle.sw_reactor_table.specs.Runs.{Runs}
+use Rattle.sw_reactor_table.proofs.Law.{reactor_law, called_law, settled_law}
+use Rattle.sw_reactor_table.proofs.Aimed.{kept_laws}
+use Rattle.sw_reactor_table.proofs.Uids.{uid_laws}
+use Rattle.sw_reactor_table.proofs.Scattered.{scatter_laws}
 use Rattle.sw_frame.specs.Cut.{IsFit}
 use Rattle.sw_join.specs.Modes.{aim_by, end_by, AimOf, EndOf}
-use Rattle.sw_reactor_laws.specs.Always.{Always}
-use Rattle.sw_reactor_laws.proofs.Grows.{fit_grows}
+use Rattle.sw_reactor_table.specs.Always.{Always}
+use Rattle.sw_reactor_table.proofs.Grows.{fit_grows}
 
 -- what the mode says of what is pushed, at every moment and at an end
 pub mode_laws : (t : Terms) → ModeLaws t (AimOf t) (EndOf t)

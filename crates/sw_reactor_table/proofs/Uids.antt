@@ -21,12 +21,12 @@ use Rattle.sw_past.specs.Views.{story_in}
 use Rattle.sw_join.specs.Laws.{streams}
 use Rattle.sw_join.specs.Aims.{packets_from, story, UidAim, UidEnd}
 use Rattle.sw_join.proofs.Routes.{is_same, is_refl}
-use Rattle.sw_reactor_laws.specs.Conn.{Conn, account, over_link}
-use Rattle.sw_reactor_laws.specs.Quiet.{told_by, side_of, IsAimed, Tale, TaleOf}
-use Rattle.sw_reactor_laws.specs.Modes.{ModeLaws, IsReleased, shown_link, back_link}
-use Rattle.sw_reactor_laws.proofs.Flow.{more_of}
-use Rattle.sw_reactor_laws.proofs.Settle.{lt_is, lt_not}
-use Rattle.sw_reactor_laws.proofs.Aimed.{streams_skip}
+use Rattle.sw_reactor_table.specs.Conn.{Conn, account, over_link}
+use Rattle.sw_reactor_table.specs.Quiet.{told_by, side_of, IsAimed, Tale, TaleOf}
+use Rattle.sw_reactor_table.specs.Modes.{ModeLaws, IsReleased, shown_link, back_link}
+use Rattle.sw_reactor_table.proofs.Flow.{more_of}
+use Rattle.sw_reactor_table.proofs.Settle.{lt_is, lt_not}
+use Rattle.sw_reactor_table.proofs.Aimed.{streams_skip}
 
 abbrev Numbered : Type 0
 Numbered = ℕ × List ℕ

@@ -11,9 +11,9 @@ use Rattle.sw_past.specs.Messages.{Message}
 use Rattle.sw_past.specs.Past.{Mail, bare}
 use Rattle.sw_past.specs.Views.{story_in}
 use Rattle.sw_join.specs.Aims.{packets_from, ScatterAim, ScatterEnd}
-use Rattle.sw_reactor_laws.specs.Quiet.{told_by, IsPhase}
-use Rattle.sw_reactor_laws.specs.Modes.{ModeLaws}
-use Rattle.sw_reactor_laws.proofs.Flow.{more_of}
+use Rattle.sw_reactor_table.specs.Quiet.{told_by, IsPhase}
+use Rattle.sw_reactor_table.specs.Modes.{ModeLaws}
+use Rattle.sw_reactor_table.proofs.Flow.{more_of}
 
 unbound : (t : Terms) → bound t.mode ≡ false → bound t.mode ≡ true → ⊥
 unbound t off on = (let e : true ≡ false = sym on ∙ off in cc)

@@ -6,7 +6,7 @@ use Rattle.sw_data.specs.declared.messages.Got.TheVariants as gots
 use Rattle.sw_record.specs.declared.record.LinkRecord.{LinkRecord}
 use Rattle.sw_record.specs.Terms.{Terms}
 use Rattle.sw_past.specs.Messages.{Message, FreshMsg, SendMsg, CloseMsg, ResetMsg, Bye, EventMsg, OverMsg, NoMore}
-use Rattle.sw_reactor_laws.specs.Conn.{Conn, Answers, Does, Pushes, Moves, Stays, Leaves, fresh, takes, stops, noted, holds, at_event, writes, serve, live_link, over_link}
+use Rattle.sw_reactor_table.specs.Conn.{Conn, Answers, Does, Pushes, Moves, Stays, Leaves, fresh, takes, stops, noted, holds, at_event, writes, serve, live_link, over_link}
 
 -- what a reactor asks for at the end of a turn: it pushes to workers alone
 pub data Ask : Type 0 where

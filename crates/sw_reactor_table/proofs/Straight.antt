@@ -18,12 +18,12 @@ use Rattle.sw_record.specs.Terms.{Terms}
 use Rattle.sw_past.specs.Messages.{Message, FreshMsg, SendMsg, CloseMsg, ResetMsg, Bye, EventMsg, OverMsg, NoMore}
 use Rattle.sw_past.specs.Past.{Mail}
 use Rattle.sw_past.specs.Routes.{ToWorker}
-use Rattle.sw_reactor_laws.specs.Conn.{cuts_next, starve, cutter, Conn, Answers, fresh, sent, takes, stops, noted, holds, at_event, wrote, flushed_some, flushed, writes, Does, Pushes, Moves, Stays, Leaves, Served, looked, pushes, plain, read_by, cut_by, closes, can_leave, end_by, cause_by, connects, open_by, held_by, tidied, serve}
-use Rattle.sw_reactor_laws.specs.Reactor.{Reactor, Ask, Take, Push, Nothing, Rest, Finished, all, each_conn, settled, settled_msg, settled_push, settled_full, pushed_by, full_by, turned, rest_by, stayed, served_by, counted, ends_by, serves, chosen, turn}
-use Rattle.sw_reactor_laws.specs.Quiet.{IsIdle}
-use Rattle.sw_reactor_laws.specs.Runs.{HeldBelow, HoldsBelow, AsksBelow, DoesBelow, Straight}
-use Rattle.sw_reactor_laws.proofs.Settle.{lt_is}
-use Rattle.sw_reactor_laws.proofs.Serve.{place_below}
+use Rattle.sw_reactor_table.specs.Conn.{cuts_next, starve, cutter, Conn, Answers, fresh, sent, takes, stops, noted, holds, at_event, wrote, flushed_some, flushed, writes, Does, Pushes, Moves, Stays, Leaves, Served, looked, pushes, plain, read_by, cut_by, closes, can_leave, end_by, cause_by, connects, open_by, held_by, tidied, serve}
+use Rattle.sw_reactor_table.specs.Reactor.{Reactor, Ask, Take, Push, Nothing, Rest, Finished, all, each_conn, settled, settled_msg, settled_push, settled_full, pushed_by, full_by, turned, rest_by, stayed, served_by, counted, ends_by, serves, chosen, turn}
+use Rattle.sw_reactor_table.specs.Quiet.{IsIdle}
+use Rattle.sw_reactor_table.specs.Runs.{HeldBelow, HoldsBelow, AsksBelow, DoesBelow, Straight}
+use Rattle.sw_reactor_table.proofs.Settle.{lt_is}
+use Rattle.sw_reactor_table.proofs.Serve.{place_below}
 use Rattle.sw_frame.specs.Cutting.{next_of}
 
 -- a serve

@@ -20,8 +20,8 @@ use Rattle.sw_past.specs.Messages.{Message, FreshMsg, SendMsg, CloseMsg, ResetMs
 use Rattle.sw_past.specs.Past.{Mail, bare}
 use Rattle.sw_past.specs.Views.{story_in, due, due_in}
 use Rattle.sw_join.specs.Aims.{packets_from, story}
-use Rattle.sw_reactor_laws.specs.Quiet.{told_by, side_of, IsSided, IsAimed, HasCause, IsPhase, IsNext, IsReady, IsHeld, Tale, Grows, IsOf}
-use Rattle.sw_reactor_laws.proofs.Flow.{more_of}
+use Rattle.sw_reactor_table.specs.Quiet.{told_by, side_of, IsSided, IsAimed, HasCause, IsPhase, IsNext, IsReady, IsHeld, Tale, Grows, IsOf}
+use Rattle.sw_reactor_table.proofs.Flow.{more_of}
 
 -- the packets with one more
 pub packets_more : (s k n : ℕ) (b : List ℕ) (bs : List (List ℕ)) → slice_get bs n ≡ Some b → packets_from s k (take (n + 1) bs) ≡ packets_from s k (take n bs) ++ Packet s (k + n) b ∷ []

@@ -25,8 +25,8 @@ use Rattle.sw_past.specs.Views.{story_in, fresh_in, sends_in, byes_in, due_in, c
 use Rattle.sw_past.specs.Routes.{IsRouted, IsFair}
 use Rattle.sw_join.specs.Laws.{IsKept}
 use Rattle.sw_join.specs.Aims.{packets_from, story}
-use Rattle.sw_reactor_laws.specs.Conn.{Conn, Answers, Served, Does, Pushes, Moves, Stays, Leaves, connects, noted, holds}
-use Rattle.sw_reactor_laws.specs.Reactor.{Reactor, Ask, Take, Push, Nothing, Rest, Finished, all, settled}
+use Rattle.sw_reactor_table.specs.Conn.{Conn, Answers, Served, Does, Pushes, Moves, Stays, Leaves, connects, noted, holds}
+use Rattle.sw_reactor_table.specs.Reactor.{Reactor, Ask, Take, Push, Nothing, Rest, Finished, all, settled}
 use Rattle.sw_step.specs.declared.actor.ActorId.TheVariants as mail
 
 -- a send that passes the bound of unsent bytes

@@ -9,8 +9,8 @@ use Rattle.sw_record.specs.Terms.{Terms}
 use Rattle.sw_past.specs.Messages.{Message}
 use Rattle.sw_past.specs.Past.{Mail}
 use Rattle.sw_past.specs.Views.{story_in}
-use Rattle.sw_reactor_laws.specs.Conn.{Conn, account, over_link}
-use Rattle.sw_reactor_laws.specs.Quiet.{Tale, TaleOf, IsOver}
+use Rattle.sw_reactor_table.specs.Conn.{Conn, account, over_link}
+use Rattle.sw_reactor_table.specs.Quiet.{Tale, TaleOf, IsOver}
 
 -- a live link, whatever its count shows (it is one behind where a push is not noted yet)
 abbrev pub shown_link : Terms → ℕ → ℕ → ℕ → ℕ → List (List ℕ) → List ℕ → ℕ → LinkRecord

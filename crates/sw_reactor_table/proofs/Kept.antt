@@ -14,12 +14,12 @@ use Rattle.sw_past.specs.Messages.{Message, FreshMsg}
 use Rattle.sw_past.specs.Past.{Mail, bare}
 use Rattle.sw_past.specs.Views.{story_in, byes_in, due_in}
 use Rattle.sw_join.specs.Laws.{IsKept, IsEnded, IsTooMuch, LastDue}
-use Rattle.sw_reactor_laws.specs.Conn.{Conn, account, over_link}
-use Rattle.sw_reactor_laws.specs.Quiet.{Flows, TooMuch, IsOver, QuietConn, dues}
-use Rattle.sw_reactor_laws.specs.Modes.{ModeLaws, IsReleased, shown_link, back_link}
-use Rattle.sw_reactor_laws.proofs.Flow.{more_of}
-use Rattle.sw_reactor_laws.proofs.Tale.{undue_in}
-use Rattle.sw_reactor_laws.proofs.Aimed.{last_due, streams_skip}
+use Rattle.sw_reactor_table.specs.Conn.{Conn, account, over_link}
+use Rattle.sw_reactor_table.specs.Quiet.{Flows, TooMuch, IsOver, QuietConn, dues}
+use Rattle.sw_reactor_table.specs.Modes.{ModeLaws, IsReleased, shown_link, back_link}
+use Rattle.sw_reactor_table.proofs.Flow.{more_of}
+use Rattle.sw_reactor_table.proofs.Tale.{undue_in}
+use Rattle.sw_reactor_table.proofs.Aimed.{last_due, streams_skip}
 
 abbrev Aim : Type 1
 Aim = ℕ → LinkRecord → Mail → Type 0

@@ -18,18 +18,18 @@ use Rattle.sw_past.specs.Past.{Mail, bare}
 use Rattle.sw_past.specs.Views.{story_in, fresh_in}
 use Rattle.sw_past.specs.Routes.{IsRouted, IsFair, ToWorker, MayPush}
 use Rattle.sw_join.specs.Laws.{IsKept, ReactorShows, ReactorLaw}
-use Rattle.sw_reactor_laws.specs.Conn.{Conn, noted, holds, at_event, live_link}
-use Rattle.sw_reactor_laws.specs.Reactor.{Reactor, Ask, Take, Push, Nothing, Rest, Finished, all, each_conn, settled, settled_push, settled_full, pushed_by, full_by, started, live_links, kept}
-use Rattle.sw_reactor_laws.specs.Quiet.{QuietConn, QuietOver, Quiet, QuietBy, QuietAfter, Grows, session_in, some_list, session_over, sessions}
-use Rattle.sw_reactor_laws.specs.Modes.{ModeLaws, back_link}
-use Rattle.sw_reactor_laws.specs.Runs.{Called, TookOne, FoundNone, PushedOne, CameBack, NoCall, Runs, First, Then, Straight, AsksBelow}
-use Rattle.sw_reactor_laws.proofs.Flow.{more_of}
-use Rattle.sw_reactor_laws.proofs.Members.{each_has}
-use Rattle.sw_reactor_laws.proofs.Kept.{live_kept, kept_took, back_kept}
-use Rattle.sw_reactor_laws.proofs.Lift.{Aim, Ending, map_append}
-use Rattle.sw_reactor_laws.proofs.Turn.{turn_quiet, started_quiet}
-use Rattle.sw_reactor_laws.proofs.Known.{honest_of, honest_then, runs_known}
-use Rattle.sw_reactor_laws.proofs.Straight.{turn_below}
+use Rattle.sw_reactor_table.specs.Conn.{Conn, noted, holds, at_event, live_link}
+use Rattle.sw_reactor_table.specs.Reactor.{Reactor, Ask, Take, Push, Nothing, Rest, Finished, all, each_conn, settled, settled_push, settled_full, pushed_by, full_by, started, live_links, kept}
+use Rattle.sw_reactor_table.specs.Quiet.{QuietConn, QuietOver, Quiet, QuietBy, QuietAfter, Grows, session_in, some_list, session_over, sessions}
+use Rattle.sw_reactor_table.specs.Modes.{ModeLaws, back_link}
+use Rattle.sw_reactor_table.specs.Runs.{Called, TookOne, FoundNone, PushedOne, CameBack, NoCall, Runs, First, Then, Straight, AsksBelow}
+use Rattle.sw_reactor_table.proofs.Flow.{more_of}
+use Rattle.sw_reactor_table.proofs.Members.{each_has}
+use Rattle.sw_reactor_table.proofs.Kept.{live_kept, kept_took, back_kept}
+use Rattle.sw_reactor_table.proofs.Lift.{Aim, Ending, map_append}
+use Rattle.sw_reactor_table.proofs.Turn.{turn_quiet, started_quiet}
+use Rattle.sw_reactor_table.proofs.Known.{honest_of, honest_then, runs_known}
+use Rattle.sw_reactor_table.proofs.Straight.{turn_below}
 use Rattle.sw_step.specs.declared.actor.ActorId.TheVariants as mail
 
 -- what each connection shows

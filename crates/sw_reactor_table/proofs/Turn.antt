@@ -15,15 +15,15 @@ use Rattle.sw_past.specs.Messages.{Message, FreshMsg, SendMsg, CloseMsg, ResetMs
 use Rattle.sw_past.specs.Past.{Mail, bare}
 use Rattle.sw_past.specs.Views.{fresh_in}
 use Rattle.sw_past.specs.Routes.{IsFair}
-use Rattle.sw_reactor_laws.specs.Conn.{Conn, Answers, sent, takes, stops, noted, holds, at_event, writes, Does, Pushes, Moves, Stays, Leaves, serve, over_link}
-use Rattle.sw_reactor_laws.specs.Reactor.{Reactor, Ask, Take, Push, Nothing, Rest, Finished, all, each_conn, settled, settled_msg, turned, rest_by, stayed, served_by, counted, ends_by, serves, chosen, turn, started}
-use Rattle.sw_reactor_laws.specs.Quiet.{QuietConn, QuietLists, Quiet, AfterTake, QuietAfter, IsOf, ServedBy, Grows, session_in, session_over, sessions}
-use Rattle.sw_reactor_laws.specs.Modes.{ModeLaws, IsReleased}
-use Rattle.sw_reactor_laws.specs.Runs.{IsHonest}
-use Rattle.sw_reactor_laws.proofs.Settle.{takes_keeps, stops_keeps}
-use Rattle.sw_reactor_laws.proofs.Flow.{more_of}
-use Rattle.sw_reactor_laws.proofs.Serve.{serve_right}
-use Rattle.sw_reactor_laws.proofs.Lift.{Aim, Ending, perm_front, lists_perm, others_not, head_replace, head_push, head_leave, lists_skip, map_append, lists_map, over_took, map_at, lists_fresh}
+use Rattle.sw_reactor_table.specs.Conn.{Conn, Answers, sent, takes, stops, noted, holds, at_event, writes, Does, Pushes, Moves, Stays, Leaves, serve, over_link}
+use Rattle.sw_reactor_table.specs.Reactor.{Reactor, Ask, Take, Push, Nothing, Rest, Finished, all, each_conn, settled, settled_msg, turned, rest_by, stayed, served_by, counted, ends_by, serves, chosen, turn, started}
+use Rattle.sw_reactor_table.specs.Quiet.{QuietConn, QuietLists, Quiet, AfterTake, QuietAfter, IsOf, ServedBy, Grows, session_in, session_over, sessions}
+use Rattle.sw_reactor_table.specs.Modes.{ModeLaws, IsReleased}
+use Rattle.sw_reactor_table.specs.Runs.{IsHonest}
+use Rattle.sw_reactor_table.proofs.Settle.{takes_keeps, stops_keeps}
+use Rattle.sw_reactor_table.proofs.Flow.{more_of}
+use Rattle.sw_reactor_table.proofs.Serve.{serve_right}
+use Rattle.sw_reactor_table.proofs.Lift.{Aim, Ending, perm_front, lists_perm, others_not, head_replace, head_push, head_leave, lists_skip, map_append, lists_map, over_took, map_at, lists_fresh}
 
 -- a message that was taken
 sent_session : (t : Terms) (starved : Bool) (b : List ℕ) (c : Conn) → (sent t starved b c).session ≡ c.session

@@ -13,10 +13,10 @@ use Rattle.sw_record.specs.Whole.{IsAllCut}
 use Rattle.sw_past.specs.Messages.{Message, FreshMsg, SendMsg, CloseMsg, ResetMsg, Bye, EventMsg, OverMsg, NoMore}
 use Rattle.sw_past.specs.Past.{Mail, bare}
 use Rattle.sw_past.specs.Views.{sends_in, byes_in, close_of, reset_of}
-use Rattle.sw_reactor_laws.specs.Conn.{Conn, sent, sent_open, takes, stops}
-use Rattle.sw_reactor_laws.specs.Quiet.{IsCaused, Flows, HasCause, QuietConn, dues}
-use Rattle.sw_reactor_laws.proofs.Flow.{more_of, flow_late, flow_mid, flow_plain, flow_much, flow_soft, flow_hard}
-use Rattle.sw_reactor_laws.proofs.Tale.{tale_cause, held_cause}
+use Rattle.sw_reactor_table.specs.Conn.{Conn, sent, sent_open, takes, stops}
+use Rattle.sw_reactor_table.specs.Quiet.{IsCaused, Flows, HasCause, QuietConn, dues}
+use Rattle.sw_reactor_table.proofs.Flow.{more_of, flow_late, flow_mid, flow_plain, flow_much, flow_soft, flow_hard}
+use Rattle.sw_reactor_table.proofs.Tale.{tale_cause, held_cause}
 
 pub lt_is : (m n : ℕ) → nat_lt m n ≡ true → m < n
 lt_is m n e = grind (arith, nat_tests)

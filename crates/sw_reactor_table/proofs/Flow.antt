@@ -13,7 +13,7 @@ use Rattle.sw_record.specs.Terms.{Terms}
 use Rattle.sw_past.specs.Messages.{Message, FreshMsg, SendMsg}
 use Rattle.sw_past.specs.Past.{Mail, bare}
 use Rattle.sw_past.specs.Views.{sends_in, byes_in, close_of, reset_of}
-use Rattle.sw_reactor_laws.specs.Quiet.{Flows, TooMuch, IsCaused}
+use Rattle.sw_reactor_table.specs.Quiet.{Flows, TooMuch, IsCaused}
 
 -- of one more message
 pub more_of : {B : Type 0} (f : Message → List B) (ms : Mail) (x : ActorId × Message) → collect f (bare (ms ++ x ∷ [])) ≡ collect f (bare ms) ++ f x.1

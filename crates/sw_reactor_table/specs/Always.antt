@@ -5,8 +5,8 @@ use Rattle.sw_record.specs.Terms.{Terms}
 use Rattle.sw_past.specs.Messages.{Message}
 use Rattle.sw_past.specs.Past.{Mail}
 use Rattle.sw_join.specs.Laws.{Aim, Ending, ReactorLaw}
-use Rattle.sw_reactor_laws.specs.Reactor.{Reactor, settled, kept}
-use Rattle.sw_reactor_laws.specs.Runs.{Called}
+use Rattle.sw_reactor_table.specs.Reactor.{Reactor, settled, kept}
+use Rattle.sw_reactor_table.specs.Runs.{Called}
 
 -- the reactor's law before a pipe call, behind it, and where what it gave is settled
 pub record Always (t : Terms) (aimed : Aim) (whole : Ending) (n : ℕ) (took pushed : Mail) (r : Reactor) : Type 0 where

@@ -13,10 +13,10 @@ use Rattle.sw_record.specs.Terms.{Terms}
 use Rattle.sw_past.specs.Messages.{Message}
 use Rattle.sw_past.specs.Past.{Mail}
 use Rattle.sw_past.specs.Routes.{ToWorker}
-use Rattle.sw_reactor_laws.specs.Conn.{Conn, Answers, Does, Pushes, Moves, Stays, Leaves, serve}
-use Rattle.sw_reactor_laws.specs.Reactor.{Reactor, Ask, Take, Push, Nothing, Rest, Finished, all, settled, turn, started}
-use Rattle.sw_reactor_laws.specs.Quiet.{IsIdle}
-use Rattle.sw_reactor_laws.specs.Modes.{IsReleased}
+use Rattle.sw_reactor_table.specs.Conn.{Conn, Answers, Does, Pushes, Moves, Stays, Leaves, serve}
+use Rattle.sw_reactor_table.specs.Reactor.{Reactor, Ask, Take, Push, Nothing, Rest, Finished, all, settled, turn, started}
+use Rattle.sw_reactor_table.specs.Quiet.{IsIdle}
+use Rattle.sw_reactor_table.specs.Modes.{IsReleased}
 
 -- what the ports may answer in a turn: an idle worker is there, and a uid that was seen is the one that the release answers
 pub record IsHonest (t : Terms) (a : Answers) (r : Reactor) : Type 0 where
