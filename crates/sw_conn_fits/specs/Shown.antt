@@ -10,7 +10,7 @@ use Rattle.sw_conn.specs.declared.serve.Step.TheVariants as steps
 use Rattle.sw_conn.specs.declared.terms.Terms.{Terms as Settings}
 use Rattle.sw_conn.specs.Causes.{is_packet_event}
 use Rattle.sw_record.specs.Terms.{Terms}
-use Rattle.sw_reactor_table.specs.Conn.{Conn as Row, Answers, Served, Pushes, Moves, Stays, Leaves, plain, pushes, read_by}
+use Rattle.sw_reactor_table.specs.Conn.{Conn as Row, Answers, Served, Pushes, Moves, Stays, Leaves, plain, pushes, read_by, serve}
 
 -- the settings that a connection goes by
 abbrev pub settings : Terms → Settings
@@ -73,3 +73,13 @@ IsStep t a k d steps.Read v = v ≡ read_by a.feed_starved a.read d
 IsStep t a k d steps.Moved v = v ≡ plain d Moves
 IsStep t a k d steps.Stay v = v ≡ plain d Stays
 IsStep t a k d (steps.Leave e) v = v ≡ plain d (Leaves e)
+
+-- a serve of a connection is the table's: with this write, and with memory for the cutter or without
+pub record IsServed {L K : Type 0} (t : Terms) (pieces : List (List ℕ)) (written : List ℕ) (n : ℕ) (c d : Conn L K) (wrote : Option LinkWrite) (step : Step) : Type 0 where
+  pub starved : Bool
+  -- the packets that were taken from the cutter then
+  pub taken : ℕ
+  pub is : (a : Answers) (k : ℕ) → a.write ≡ write_of wrote → a.cut_starved ≡ starved → IsStep t a k (shown pieces (written_by wrote c.unsent written) taken d) step (serve t a k (shown pieces written n c))
+  pub cut : IsCut t pieces taken d
+  -- a read comes only without a cause, and then no packet was taken
+  pub reads : step ≡ steps.Read → (d.cause ≡ None) × (taken ≡ n)

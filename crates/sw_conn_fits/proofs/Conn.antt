@@ -31,7 +31,7 @@ use Rattle.sw_conn.specs.Serve as serving
 use Rattle.sw_record.specs.Terms.{Terms}
 use Rattle.sw_reactor_table.specs.Conn.{Conn as Row, Answers, Served, Pushes, Moves, Stays, Leaves, plain, pushes, starve, read_by, after_read, cut_by, cuts_next, end_by, cause_by, open_by, held_by}
 use Rattle.sw_reactor_table.specs.Conn as table
-use Rattle.sw_reactor_fits.specs.Shown.{settings, shown, IsCut, write_of, written_by, pieces_by, some_write, IsStep}
+use Rattle.sw_conn_fits.specs.Shown.{settings, shown, IsCut, write_of, written_by, pieces_by, some_write, IsStep, IsServed}
 
 -- what is settled
 pub shown_sent : {L K : Type 0} (t : Terms) (starved : Bool) (b : List ℕ) (ps : List (List ℕ)) (ws : List ℕ) (n : ℕ) (c : Conn L K) → shown ps ws n (conn.sent (settings t) starved b c) ≡ table.sent t starved b (shown ps ws n c)
@@ -261,3 +261,17 @@ shown_side t a k ps ws n c e f = rw (e, f) refl
 
 pub shown_account : {L K : Type 0} (t : Terms) (ps : List (List ℕ)) (ws : List ℕ) (n : ℕ) (c : Conn L K) (uid : ℕ) (e : Cause) → table.account t (shown ps ws n c) uid e ≡ conn.account (settings t) c uid e
 shown_account t ps ws n c uid e = refl
+
+-- a whole serve: its write, point 1, and what it chooses
+pub served_is : {L K : Type 0} (gives : L → List ℕ → LinkWrite → L → Type 0) (t : Terms) (ps : List (List ℕ)) (ws : List ℕ) (n : ℕ) (c l d : Conn L K) (wrote : Option LinkWrite) (step : Step) → IsCut t ps n c → serving.FlushedBy gives c wrote l → serving.Chooses (settings t) (conn.cleared l) d step → IsServed t ps ws n c d wrote step
+served_is {L} {K} gives t ps ws n c l d wrote step h f m =
+    let ws2 : List ℕ = written_by wrote c.unsent ws in
+    let v : IsChosen t ps ws2 n (λ a k. held_by t a k (conn.cleared l).held (shown ps ws2 n (conn.cleared l))) d step = chosen_is t ps ws2 n (conn.cleared l) d step (cut_flushed gives t ps n c l wrote f h) m in
+    record {
+      starved = v.starved;
+      taken = v.taken;
+      is = λ a k e g. subst (λ (x : Row). IsStep t a k (shown ps ws2 v.taken d) step (held_by t a k (table.cleared x).held (table.cleared x)))
+        (shown_flushed gives ps ws n c l wrote f ∙ ap (λ (w : LinkWrite). table.flushed w (shown ps ws n c)) (sym e)) (v.is a k g);
+      cut = v.cut;
+      reads = v.reads;
+    }
