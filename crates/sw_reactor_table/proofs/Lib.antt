@@ -1,0 +1,16 @@
+pub mod Members
+pub mod Grows
+pub mod Flow
+pub mod Tale
+pub mod Settle
+pub mod Serve
+pub mod Aimed
+pub mod Uids
+pub mod Scattered
+pub mod Kept
+pub mod Lift
+pub mod Turn
+pub mod Known
+pub mod Straight
+pub mod Law
+pub mod Final
