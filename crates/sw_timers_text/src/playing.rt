@@ -36,11 +36,13 @@ fn put_added(out: &mut String, added: Result<u64, TimerFault>) -> Result<(), Out
 fn fire(timers: &mut Timers, out: &mut String, now: u64, most: u64) -> Result<(), OutOfMemory>
     ensures { OnOk result (Writes (λ text. Fires now most timers.old text timers.new) (string_bytes out.old) (string_bytes out.new)) }
 {
-    for _ in 0..most {
+    let mut fired = 0;
+    while fired < most {
         match timers.due(now) {
             None => return Ok(()),
             Some((id, moment)) => put_fire(out, id, moment)?,
         }
+        fired += 1;
     }
     Ok(())
 }
