@@ -1,9 +1,9 @@
 -- Why a Beat's read answers End.
-use Rattle.std.proofs.Common.{◌≡◌, ℕ, ◌⊎◌, inl, inr, Bool, true, false, List, Option, Some, None, refl, ap, sym, subst, ◌∙◌, true≢false}
+use Rattle.std.proofs.Common.{◌≡◌, ℕ, inl, inr, Bool, true, false, Option, Some, None, refl, ap, sym, subst, ◌∙◌, true≢false}
 use Rattle.std.specs.Prelude.{IsSome, if◌then◌else◌}
 use Rattle.sw_link.specs.Reads.{Read, GotPiece, ReadNotYet, ReadEnd, ReadFailed}
 use Rattle.sw_beat.specs.declared.beat.Beat.{Beat}
-use Rattle.sw_beat.specs.Idle.{FollowsRead, WaitsRead, ReadsBy, ReadsBeat, waited_by, too_long, EndHasCause, EndsHaveCauses}
+use Rattle.sw_beat.specs.Idle.{FollowsRead, ReadsBy, waited_by, too_long, EndHasCause, EndsHaveCauses}
 
 abbrev is_end : Read → Bool
 is_end (GotPiece p) = false

@@ -1,5 +1,5 @@
 -- A net whose links have a heartbeat: what an accept comes to, and what the net tells.
-use Rattle.std.specs.Prelude.{◌≡◌, ℕ, List, [], ◌∷◌, map, Option, Some, None, refl}
+use Rattle.std.specs.Prelude.{◌≡◌, ℕ, ◌∷◌, map, Option, Some, None}
 use Rattle.std.proofs.Common.{ap, sym, subst, ◌∙◌}
 use Rattle.sw_link.specs.Nets.{Coming, Takes, accept_tells, CountsAccept}
 use Rattle.sw_link.specs.declared.net.Accept.{Accept}

@@ -1,6 +1,6 @@
 -- A clock that goes by steps.
-use Rattle.std.specs.Prelude.{◌≡◌, ℕ, ◌+◌, min, Option, Some, None, refl}
-use Rattle.std.proofs.Common.{ap, subst, sym, ◌∙◌}
+use Rattle.std.specs.Prelude.{◌≡◌, ℕ, ◌+◌, min, Some, None}
+use Rattle.std.proofs.Common.{ap, sym, ◌∙◌}
 use Rattle.sw_causes.specs.Causes.{most}
 use Rattle.sw_beat.specs.declared.clock.StepClock.{StepClock}
 use Rattle.sw_beat.specs.Clocks.{IsForetold}

@@ -1,12 +1,12 @@
 -- A Beat tells what its link tells, and its own end.
-use Rattle.std.specs.Prelude.{◌≡◌, ℕ, ◌≤◌, Bool, true, false, ◌||◌, List, Option, Some, None, is_some, if◌then◌else◌, refl}
-use Rattle.std.proofs.Common.{ap, sym, subst, ◌∙◌, arith}
+use Rattle.std.specs.Prelude.{◌≡◌, ℕ, ◌≤◌, Bool, true, false, List, Option, Some, None, if◌then◌else◌, refl}
+use Rattle.std.proofs.Common.{ap, ◌∙◌, arith}
 use Rattle.sw_link.specs.Reads.{Read, GotPiece, ReadNotYet, ReadEnd, ReadFailed, CountsRead, CountsWrite}
 use Rattle.sw_link.specs.Told.{Told, told_by, read_tells, write_tells}
 use Rattle.sw_link.specs.declared.link.LinkWrite.{LinkWrite}
 use Rattle.sw_link.specs.declared.link.LinkWrite.TheVariants as writes
 use Rattle.sw_beat.specs.declared.beat.Beat.{Beat}
-use Rattle.sw_beat.specs.Idle.{FollowsRead, WaitsRead, ReadsBy, ReadsBeat, WritesBeat, with_idled, waited_by, too_long, told_of}
+use Rattle.sw_beat.specs.Idle.{FollowsRead, ReadsBy, ReadsBeat, WritesBeat, with_idled, waited_by, too_long, told_of}
 
 -- ---- the end, beside all else that is told
 

@@ -1,5 +1,5 @@
 -- The map that a tree's entries are.
-use Rattle.std.proofs.Common.{◌≡◌, ℕ, ◌+◌, Bool, true, false, cond, List, [], ◌∷◌, length, Option, Some, None, refl, ap, sym, ◌∙◌}
+use Rattle.std.proofs.Common.{◌≡◌, ℕ, ◌+◌, Bool, true, false, cond, List, [], ◌∷◌, length, Option, Some, None, refl, ap, sym, ◌∙◌, add-one}
 use Rattle.std.specs.Prelude.{is_some}
 use Rattle.std.specs.List.{AllByRecursion}
 use Rattle.std.specs.List.Sorted.{IsStrictlySortedBy}
@@ -49,6 +49,8 @@ pub len_at : (es : Entries) → IsStrictlySortedBy nat_cmp (keys_of es) → map.
 unfolding IsStrictlySortedBy
 len_at [] h = len-empty nat_cmp Alarm
 len_at (e ∷ es) h =
+    let more : map.len (map.insert (map_of es) e.0 e.1) ≡ length es + 1 =
     len-insert nat_cmp_total (map_of es) e.0 e.1
     ∙ ap (λ o. cond (is_some o) (map.len (map_of es)) (map.len (map_of es) + 1)) (get_at es e.0 ∙ below e.0 es h.0)
-    ∙ ap (λ n. n + 1) (len_at es h.1)
+    ∙ ap (λ n. n + 1) (len_at es h.1) in
+    rw add-one at more

@@ -1,6 +1,6 @@
 -- Turns in a heap: the first is the soonest, and what comes in and goes out.
 use Rattle.std.proofs.Common.{◌≡◌, ℕ, zero, suc, ◌+◌, ◌<◌, ◌≤◌, ◌⊎◌, inl, inr, Bool, true, false, cond, List, [], ◌∷◌, ◌++◌, length, get_or, Option, Some, None, refl, ap, sym, subst, ◌∙◌, true≢false, arith}
-use Rattle.std.specs.Prelude.{All, Contains, IsPermutation, nat_lt, nat_eq, ◌==◌}
+use Rattle.std.specs.Prelude.{All, Contains, IsPermutation, IfSome, IfNone, IsOk, OnOk, Result, Ok, Err, nat_lt, nat_eq, ◌==◌}
 use Rattle.std.specs.List.{AllByRecursion, filter}
 use Rattle.std.specs.Ordering.{nat_cmp, ordering_then, is_lt, is_eq, eq_by_cmp}
 use Rattle.std.specs.declared.cmp.Ordering.{Ordering}
@@ -43,6 +43,10 @@ least x (t ∷ ts) h = (no_sooner t.0 x.0 h.0, least x ts h.1)
 pub least_of : (x : Turn) (xs : List Turn) → IsUpperBound soonest_cmp x xs → All (λ (t : Turn). ¬ IsSooner t.0 x.0) xs
 least_of x xs h = All-from_recursion (λ (t : Turn). ¬ IsSooner t.0 x.0) xs (least x xs h)
 
+pub ok_gives : {A B : Type 0} (r : Result A B) (P : Type 0) → IsOk r → OnOk r P → P
+ok_gives (Ok x) P e p = p
+ok_gives (Err x) P e p = absurd (true≢false (sym e))
+
 -- ---- the first one
 
 pub head_is : (xs : List Turn) (x : Turn) → 0 < length xs → x ≡ get_or xs 0 x → head_of xs ≡ Some x.0
@@ -59,11 +63,19 @@ first_or_rest : (x : Turn) (xs : List Turn) (t : Turn) → Contains (x ∷ xs) t
 first_or_rest x xs t (zero, lt, is) = inl is
 first_or_rest x xs t (suc k, lt, is) = inr (k, omega (arith, lt), is)
 
+some_in : (xs : List Turn) (t : Turn) → Contains xs t → 0 < length xs
+some_in xs t (k, lt, is) = omega (arith, lt)
+
 pub popped : (old new : List Turn) (x t : Turn) → x ≡ get_or old 0 x → 0 < length old → IsPermutation old (x ∷ new) → Contains old t → (head_of old ≡ Some t.0) ⊎ Contains new t
 popped old new x t top some same c = elim (first_or_rest x new t (Contains-permutation old (x ∷ new) t same c)) [
   | inl e ↦ inl (head_is old x some top ∙ ap (λ (r : Turn). Some r.0) e)
   | inr h ↦ inr h
 ]
+
+-- the same, of what a pop answers
+pub popped_by : (old new : List Turn) (o : Option Turn) (m n : ℕ) → IfSome o (λ x. x ≡ get_or old 0 x) → IfSome o (λ x. IsPermutation old (x ∷ new)) → IfNone o ((new ≡ old) × (m ≡ n)) → (t : Turn) → Contains old t → (head_of old ≡ Some t.0) ⊎ Contains new t
+popped_by old new None m n top same none t c = inr (subst (λ (l : List Turn). Contains l t) (sym none.0) c)
+popped_by old new (Some x) m n top same none t c = popped old new x t top (some_in old t c) same c
 
 pub pushed : (old new : List Turn) (x : Turn) → IsPermutation (x ∷ old) new → Contains new x
 pushed old new x same = Contains-permutation (x ∷ old) new x same (0, omega arith, refl)

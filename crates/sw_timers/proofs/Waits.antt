@@ -1,5 +1,5 @@
 -- Entries and their turns.
-use Rattle.std.proofs.Common.{◌≡◌, ℕ, suc, zero, ◌+◌, ◌<◌, ◌≤◌, ◌≢◌, ◌⊎◌, inl, inr, Bool, true, false, cond, List, [], ◌∷◌, length, Option, Some, None, refl, ap, sym, subst, ◌∙◌, true≢false, arith}
+use Rattle.std.proofs.Common.{◌≡◌, ℕ, suc, zero, ◌+◌, ◌-◌, ◌<◌, ◌≤◌, ◌≢◌, ◌⊎◌, inl, inr, Bool, true, false, cond, List, [], ◌∷◌, length, Option, Some, None, refl, ap, sym, subst, ◌∙◌, true≢false, arith}
 use Rattle.std.specs.Prelude.{All, Contains, nat_lt, ◌==◌, is_some, unwrap_or}
 use Rattle.std.specs.Ordering.{nat_cmp, is_eq, eq_by_cmp}
 use Rattle.std.specs.declared.cmp.Ordering.TheVariants.{Less, Equal, Greater}
@@ -57,8 +57,8 @@ get_left w k q ne = get-remove nat_cmp_total w k q ∙ ap (λ b. cond b None (ma
 all_put : (P : ℕ → Alarm → Type 0) (w : Waiting) (k : ℕ) (v : Alarm) → P k v → ((q : ℕ) (a : Alarm) → q ≢ k → map.get w q ≡ Some a → P q a) → (q : ℕ) (a : Alarm) → map.get (map.insert w k v) q ≡ Some a → P q a
 all_put P w k v here rest q a is = elim (cases_eq q k) [
   | inl e ↦
-    let same : v ≡ a = same_some v a (sym (get_put w k v) ∙ ap (map.get (map.insert w k v)) (sym e) ∙ is) in
-    subst (λ n. P n a) (sym e) (subst (P k) same here)
+      let same : v ≡ a = same_some v a (sym (get_put w k v) ∙ ap (map.get (map.insert w k v)) (sym e) ∙ is) in
+      subst (λ n. P n a) (sym e) (subst (P k) same here)
   | inr ne ↦ rest q a ne (sym (get_beside w k v q ne) ∙ is)
 ]
 
@@ -80,8 +80,8 @@ kept_itself w id a is = ap (has_moment a.moment) is ∙ matched a.moment
 pub queued_left : (old new : List Turn) (w : Waiting) (r : ℕ × ℕ) → head_of old ≡ Some r → is_kept w r ≡ false → ((t : Turn) → Contains old t → (head_of old ≡ Some t.0) ⊎ Contains new t) → AreQueued old w → AreQueued new w
 queued_left old new w r head gone loses q id a is = elim (loses (turn_of a.moment id) (q id a is)) [
   | inl h ↦
-    let same : r ≡ (a.moment, id) = same_some r (a.moment, id) (sym head ∙ h) in
-    absurd (true≢false (sym (kept_itself w id a is) ∙ ap (is_kept w) (sym same) ∙ gone))
+      let same : r ≡ (a.moment, id) = same_some r (a.moment, id) (sym head ∙ h) in
+      absurd (true≢false (sym (kept_itself w id a is) ∙ ap (is_kept w) (sym same) ∙ gone))
   | inr h ↦ h
 ]
 
@@ -207,6 +207,12 @@ kept_moved w q r last id a (Some moment) k is queued = record {
 
 pub kept_answered : (w : Waiting) (q r : Turns) (last id : ℕ) (a : Alarm) → IsKept w q last → map.get w id ≡ Some a → AreQueued r.turns (answered id a w) → IsKept (answered id a w) r last
 kept_answered w q r last id a k is queued = kept_moved w q r last id a (again a) k is queued
+
+pub kept_entered : (w v : Waiting) (q r : Turns) (last : ℕ) (a : Alarm) → v ≡ map.insert w (last + 1) a → map.len w ≢ MOST_ENTRIES → IsKept w q last → AreQueued r.turns v → IsKept v r (last + 1)
+kept_entered w v q r last a e room k queued = subst (λ (x : Waiting). IsKept x r (last + 1)) (sym e) (kept_more w q r last a k room (subst (AreQueued r.turns) e queued))
+
+pub kept_cleared : (w v : Waiting) (q r : Turns) (last id : ℕ) → v ≡ map.remove w id → IsKept w q last → (AreQueued q.turns v → AreQueued r.turns v) → IsKept v r last
+kept_cleared w v q r last id e k f = subst (λ (x : Waiting). IsKept x r last) (sym e) (kept_less w q r last id k (subst (AreQueued r.turns) e (f (subst (AreQueued q.turns) (sym e) (queued_less q.turns w id k.queued)))))
 
 -- the turns may change beside the entries
 pub kept_beside : (w : Waiting) (q r : Turns) (last : ℕ) → IsKept w q last → AreQueued r.turns w → IsKept w r last

@@ -13,7 +13,6 @@ use crate::queue::{Queue, is_kept};
 pub fn first(queue: &mut Queue, alarms: &Alarms) -> Option<(u64, u64)>
     requires { AreQueued queue.old.turns alarms.now }
     ensures queued { AreQueued queue.new.turns alarms.now }
-    ensures room { queue.new.room ≡ queue.old.room }
     ensures head { result ≡ head_of queue.new.turns }
     ensures none { IfNone result (NoneWaits alarms.now) }
     ensures some { IfSome result (λ r. IsFirst alarms.now r.0 r.1) }
@@ -42,7 +41,6 @@ pub fn answer(queue: &mut Queue, alarms: &mut Alarms, id: u64, alarm: Alarm)
     requires there { map.get alarms.old id ≡ Some alarm }
     requires head { head_of queue.old.turns ≡ Some (alarm.moment, id) }
     requires queued { AreQueued queue.old.turns alarms.old }
-    requires room { length queue.old.turns ≤ queue.old.room }
     ensures answered { alarms.new ≡ answered id alarm alarms.old }
     ensures queued { AreQueued queue.new.turns alarms.new }
 {

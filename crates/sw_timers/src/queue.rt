@@ -81,7 +81,7 @@ impl Queue {
         requires { 0 < length self.old.turns }
         ensures kept { (t : Turn) → Contains self.old.turns t → (head_of self.old.turns ≡ Some t.0) ⊎ Contains self.new.turns t }
         ensures len { length self.new.turns + 1 ≡ length self.old.turns }
-        ensures room { self.new.room ≡ self.old.room }
+        ensures room { length self.new.turns < self.new.room }
     {
         self.heap.pop();
     }

@@ -1,8 +1,8 @@
-use Rattle.std.proofs.Common.{◌≡◌, ℕ, List, Option, Some, None, Bool, true, false, refl, sym, ap, subst, ◌∙◌, true≢false}
+use Rattle.std.proofs.Common.{◌≡◌, ℕ, List, Option, Some, None, false, refl, sym, ap, subst, ◌∙◌, true≢false}
 use Rattle.std.specs.Prelude.{is_some, take, length}
 use Rattle.sw_link.specs.Reads.{Read, GotPiece}
 use Rattle.sw_beat.specs.declared.beat.Beat.{Beat}
-use Rattle.sw_beat.specs.Idle.{Hears, ReadsBy, ReadsBeat}
+use Rattle.sw_beat.specs.Idle.{Hears, ReadsBy}
 use Rattle.sw_beat.proofs.beat.BeatLink.read.Goals as goal
 
 -- a piece was read, and then the clock
