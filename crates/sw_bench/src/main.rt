@@ -13,11 +13,12 @@ mod rowlock_loads;
 mod rowlock_swaps;
 mod sessions;
 mod table;
+mod timers;
 
 use std::{env, io};
 
 /// What is printed where no part is named, behind a small load that is the same at each run.
-const USAGE: &str = "usage: sw_bench pipe|rowlock|board|sessions|table|audit|cut";
+const USAGE: &str = "usage: sw_bench pipe|rowlock|board|sessions|table|audit|cut|timers";
 
 fn main(rt: HostRuntime) -> io::Result<()> {
     let mut words = env::args(&rt)?;
@@ -34,6 +35,7 @@ fn main(rt: HostRuntime) -> io::Result<()> {
         "table" => table::figures(&rt, rt.alloc()),
         "audit" => audit::figures(&rt, rt.alloc()),
         "cut" => cut::figures(&rt, rt.alloc()),
+        "timers" => timers::figures(&rt, rt.alloc()),
         _ => println!(rt; "{USAGE}"),
     }
 }

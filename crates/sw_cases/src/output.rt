@@ -73,3 +73,17 @@ pub fn put_lines(alloc: Global, out: &mut String, bytes: &[u8]) -> Result<(), Al
     }
     Ok(())
 }
+
+/// The last so many lines of a text whose lines all end.
+pub fn last_lines(bytes: &[u8], lines: u64) -> &[u8] {
+    let ends = bytes.iter().filter(|byte| **byte == b'\n').count();
+    let mut left = (ends as u64).saturating_sub(lines);
+    let mut from = 0;
+    for at in 0..bytes.len() {
+        if left > 0 && bytes[at] == b'\n' {
+            left -= 1;
+            from = at + 1;
+        }
+    }
+    &bytes[from..]
+}

@@ -1,12 +1,13 @@
 //! Cases of the command: words and an input in, a status and a text out.
 
 use crate::case::Case;
-use crate::output::put_lines;
+use crate::output::{last_lines, put_lines};
 use std::alloc::Global;
 use sw_base::OutOfMemory;
 use sw_causes::{
     MemorySink, MemorySource, ReadGot, ReaderSource, Source, SureSink, SureSource, WriterSink,
 };
+use sw_text::number;
 use sw_top::{Status, Word, tool};
 
 /// A source that never ends.
@@ -58,14 +59,18 @@ fn put_from<S: Source>(
         _ => {
             let mut sink = MemorySink::new(alloc, case.numbers(alloc, "writes")?);
             put_status(out, &tool(alloc, words, source, &mut sink))?;
-            Ok(put_lines(alloc, out, sink.bytes())?)
+            let text = match number(case.option("last").as_bytes()) {
+                None => sink.bytes(),
+                Some(n) => last_lines(sink.bytes(), n),
+            };
+            Ok(put_lines(alloc, out, text)?)
         }
     }
 }
 
 /// Plays the case: `tool` and the words of the command line. Options are `reads` and `writes` with the numbers, from 0, of
 /// the calls that fail, and `from` and `to` with the kind of source and sink: `memory`, which is meant where there is none,
-/// `sure`, `reader` or `writer`, and `endless`.
+/// `sure`, `reader` or `writer`, and `endless`; and `last N`, by which no more than the last N lines are printed.
 pub fn put(
     alloc: Global,
     out: &mut String,

@@ -7,7 +7,7 @@ use Rattle.sw_play.proofs.RightTexts.{right_answer}
 use Rattle.sw_top.specs.Says.{FromSource, FromSink, DueBy, Said}
 use Rattle.sw_top.specs.Rightly.{IsRightFor, PrintsRight}
 use Rattle.sw_top.specs.declared.words.Command.{Command}
-use Rattle.sw_top.specs.declared.words.Command.TheVariants.{Drill as DrillCommand, Audit, Settings as SettingsCommand}
+use Rattle.sw_top.specs.declared.words.Command.TheVariants.{Drill as DrillCommand, Audit, Settings as SettingsCommand, Timers}
 use Rattle.sw_top.specs.Words.{command_of}
 
 right_for : (o : Option Command) (s : FromSource) (text : List ℕ) → DueBy o s statuses.Ok text → IsRightFor o s text
@@ -15,6 +15,7 @@ right_for None s text m = tt
 right_for (Some DrillCommand) s text m = (m.0, m.1, right_answer m.0 text (drill_of m.0) refl m.2)
 right_for (Some Audit) s text m = tt
 right_for (Some SettingsCommand) s text m = tt
+right_for (Some Timers) s text m = tt
 
 -- what was written at Ok is such a text, if the words name a drill
 pub prints_right : (words : List (List ℕ)) (s : FromSource) (k : FromSink) (result : Status) → Said words s k result → PrintsRight words s k result

@@ -5,6 +5,10 @@ use Rattle.std.specs.Prelude.{IfOk}
 use Rattle.sw_base.specs.declared.out_of_memory.OutOfMemory.{OutOfMemory}
 use Rattle.std.specs.Io.KnownBytes.{Consumes, IsAtEnd}
 use Rattle.sw_drill.specs.declared.schedule.Drill.{Drill}
+use Rattle.sw_text.specs.Parts.{lines_of}
+use Rattle.sw_timers_text.specs.declared.line.Line.{Line as TimerLine}
+use Rattle.sw_timers_text.specs.Grammar.{lines_from}
+use Rattle.sw_timers_text.specs.Prints.{IsTimedBy}
 use Rattle.sw_drill.specs.Draft.{drill_of}
 use Rattle.sw_settings.specs.declared.faults.SettingsFault.{SettingsFault}
 use Rattle.sw_settings.specs.declared.values.Values.{Values}
@@ -14,13 +18,13 @@ use Rattle.sw_settings_json.specs.Json.{json_settings}
 use Rattle.sw_answer.specs.declared.refusal.Refusal.{Refusal}
 use Rattle.sw_answer.specs.declared.refusal.Refusal.TheVariants.{Line, Settings, Place}
 use Rattle.sw_top.specs.declared.words.Command.{Command}
-use Rattle.sw_top.specs.declared.words.Command.TheVariants.{Drill as DrillCommand, Audit, Settings as SettingsCommand}
+use Rattle.sw_top.specs.declared.words.Command.TheVariants.{Drill as DrillCommand, Audit, Settings as SettingsCommand, Timers}
 use Rattle.sw_top.specs.Answering.{Answers, shown}
 use Rattle.sw_play.specs.Faults.{drill_fault}
 use Rattle.sw_answer.specs.Refusals.{is_memory, refusal_text, refusal_status}
 use Rattle.sw_play.specs.Run.{played_or, answered}
 use Rattle.sw_top.specs.Words.{command_of}
-use Rattle.sw_top.specs.Says.{FromSource, FromSink, IsInput, IsAnswered, IsWritten, IsCut, Due, DueBy, Meant, Finishes, cut_status, DoesBy, Said, expected_by, expected, settings_status, Expected, IsComplete}
+use Rattle.sw_top.specs.Says.{FromSource, FromSink, IsInput, IsAnswered, IsWritten, IsCut, Due, DueBy, Meant, Finishes, cut_status, DoesBy, Said, expected_by, expected, settings_status, timers_status, Expected, IsComplete}
 use Rattle.sw_answer.specs.declared.status.Status.{Status}
 use Rattle.sw_answer.specs.declared.status.Status.TheVariants as statuses
 
@@ -113,22 +117,35 @@ place_shown : (r : Result Values SettingsFault) (at : ℕ) → Err (Place at) �
 place_shown (Ok v) at e = cc
 place_shown (Err fault) at e = cc
 
+-- the status of lines on timers
+
+ok_timed : (r : Result (List TimerLine) ℕ) (text : List ℕ) → IsTimedBy r (Ok text) → statuses.Ok ≡ timers_status r
+ok_timed (Ok lines) text h = refl
+ok_timed (Err n) text h = absurd h
+
+line_timed : (r : Result (List TimerLine) ℕ) (n : ℕ) → IsTimedBy r (Err n) → statuses.BadLine n ≡ timers_status r
+line_timed (Ok lines) n h = absurd h
+line_timed (Err m) n h = ap (λ (x : ℕ). statuses.BadLine x) h
+
 -- what an answer says of the status
 
 ok_expected : (c : Command) (input text : List ℕ) → Answers c input (Ok text) → Expected c input statuses.Ok
 ok_expected DrillCommand input text a = sym (ok_answer (drill_of input) text a)
 ok_expected Audit input text a = (a.0, a.1)
 ok_expected SettingsCommand input text a = ok_shown (json_settings input) text a
+ok_expected Timers input text a = ok_timed (lines_from 1 (lines_of input)) text a
 
 line_expected : (c : Command) (input : List ℕ) (n : ℕ) → Answers c input (Err (Line n)) → Expected c input (statuses.BadLine n)
 line_expected DrillCommand input n a = sym (line_answer (drill_of input) n a)
 line_expected Audit input n a = a
 line_expected SettingsCommand input n a = absurd (line_shown (json_settings input) n a)
+line_expected Timers input n a = line_timed (lines_from 1 (lines_of input)) n a
 
 settings_expected : (c : Command) (input : List ℕ) (fault : SettingsFault) → Answers c input (Err (Settings fault)) → Expected c input (statuses.Settings fault)
 settings_expected DrillCommand input fault a = sym (settings_answer (drill_of input) fault a)
 settings_expected Audit input fault a = absurd a
 settings_expected SettingsCommand input fault a = settings_shown (json_settings input) fault a
+settings_expected Timers input fault a = absurd a
 
 place_by : (d : Drill) (o : Option SettingsFault) (at : ℕ) → played_or d o ≡ Err (Place at) → ⊥
 place_by d None at e = cc
@@ -142,6 +159,7 @@ place_expected : (c : Command) (input : List ℕ) (at : ℕ) → Answers c input
 place_expected DrillCommand input at a = absurd (place_answer (drill_of input) at a)
 place_expected Audit input at a = a
 place_expected SettingsCommand input at a = absurd (place_shown (json_settings input) at a)
+place_expected Timers input at a = absurd a
 
 -- what is due for a known command
 due : (words : List (List ℕ)) (c : Command) (s : FromSource) (status : Status) (text : List ℕ) → command_of words ≡ Some c → Meant words s status text → Due c s status text

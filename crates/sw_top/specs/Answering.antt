@@ -5,7 +5,7 @@ use Rattle.sw_audit.specs.declared.verdict.AuditFault.TheVariants as faults
 use Rattle.sw_audit.specs.Verdicts.{IsAudit}
 use Rattle.sw_audit.specs.Printing.{verdict_text}
 use Rattle.sw_top.specs.declared.words.Command.{Command}
-use Rattle.sw_top.specs.declared.words.Command.TheVariants.{Drill, Audit, Settings as SettingsCommand}
+use Rattle.sw_top.specs.declared.words.Command.TheVariants.{Drill, Audit, Settings as SettingsCommand, Timers}
 use Rattle.sw_answer.specs.declared.refusal.Refusal.{Refusal}
 use Rattle.sw_answer.specs.declared.refusal.Refusal.TheVariants.{Line, Settings, Place}
 use Rattle.sw_settings.specs.declared.values.Values.{Values}
@@ -13,6 +13,7 @@ use Rattle.sw_settings.specs.declared.faults.SettingsFault.{SettingsFault}
 use Rattle.sw_settings_json.specs.Json.{json_settings}
 use Rattle.sw_settings_print.specs.Print.{settings_text}
 use Rattle.sw_play.specs.Run.{answer_of}
+use Rattle.sw_timers_text.specs.Prints.{IsTimedText}
 
 -- a trace is answered by its verdict, and refused for its first line out of the grammar or for its least bad place
 abbrev pub AnswersTrace : List ℕ → Result (List ℕ) Refusal → Type 0
@@ -29,8 +30,16 @@ shown (Err fault) = Err (Settings fault)
 abbrev pub settings_answer : List ℕ → Result (List ℕ) Refusal
 settings_answer input = shown (json_settings input)
 
+-- lines on timers are answered by what they print, and refused for the first that isn't in the grammar
+abbrev pub AnswersTimers : List ℕ → Result (List ℕ) Refusal → Type 0
+AnswersTimers input (Ok text) = IsTimedText input (Ok text)
+AnswersTimers input (Err (Line n)) = IsTimedText input (Err n)
+AnswersTimers input (Err (Settings fault)) = ⊥
+AnswersTimers input (Err (Place at)) = ⊥
+
 -- what is written for an input under a command, or why it is refused
 abbrev pub Answers : Command → List ℕ → Result (List ℕ) Refusal → Type 0
 Answers Drill input r = answer_of input ≡ r
 Answers Audit input r = AnswersTrace input r
 Answers SettingsCommand input r = r ≡ settings_answer input
+Answers Timers input r = AnswersTimers input r

@@ -3,7 +3,7 @@ use Rattle.std.specs.Prelude.{◌≡◌, ℕ, List, slice_get, Option, Some, Non
 use Rattle.sw_answer.specs.declared.status.Status.{Status}
 use Rattle.sw_answer.specs.declared.status.Status.TheVariants as statuses
 use Rattle.sw_top.specs.declared.words.Command.{Command}
-use Rattle.sw_top.specs.declared.words.Command.TheVariants.{Drill as DrillCommand, Audit, Settings as SettingsCommand}
+use Rattle.sw_top.specs.declared.words.Command.TheVariants.{Drill as DrillCommand, Audit, Settings as SettingsCommand, Timers}
 use Rattle.sw_top.specs.Words.{command_of}
 use Rattle.sw_top.specs.Says.{FromSource, FromSink, IsInput, Meant, IsWritten}
 use Rattle.sw_play.specs.Rightly.{IsRightText}
@@ -14,6 +14,7 @@ IsRightFor None s text = Unit {0}
 IsRightFor (Some DrillCommand) s text = (input : List ℕ) × IsInput s input × IsRightText input text
 IsRightFor (Some Audit) s text = Unit {0}
 IsRightFor (Some SettingsCommand) s text = Unit {0}
+IsRightFor (Some Timers) s text = Unit {0}
 
 -- at Ok the text that was meant and written is such a text, if the words name a drill
 abbrev pub PrintsRight : List (List ℕ) → FromSource → FromSink → Status → Type 0

@@ -9,7 +9,7 @@ use Rattle.sw_audit.specs.declared.verdict.AuditFault.TheVariants as faults
 use Rattle.sw_audit.specs.Verdicts.{IsAudit}
 use Rattle.sw_audit.specs.Printing.{verdict_text}
 use Rattle.sw_top.specs.declared.words.Command.{Command}
-use Rattle.sw_top.specs.declared.words.Command.TheVariants.{Drill as DrillCommand, Audit, Settings as SettingsCommand}
+use Rattle.sw_top.specs.declared.words.Command.TheVariants.{Drill as DrillCommand, Audit, Settings as SettingsCommand, Timers}
 use Rattle.sw_top.specs.Words.{command_of}
 use Rattle.sw_top.specs.Answering.{Answers}
 use Rattle.sw_answer.specs.declared.refusal.Refusal.{Refusal}
@@ -20,6 +20,9 @@ use Rattle.sw_settings.specs.declared.faults.SettingsFault.{SettingsFault}
 use Rattle.sw_settings.specs.declared.values.Values.{Values}
 use Rattle.sw_settings_json.specs.Json.{json_settings}
 use Rattle.sw_drill.specs.declared.schedule.Drill.{Drill}
+use Rattle.sw_text.specs.Parts.{lines_of}
+use Rattle.sw_timers_text.specs.declared.line.Line.{Line as TimerLine}
+use Rattle.sw_timers_text.specs.Grammar.{lines_from}
 use Rattle.sw_drill.specs.Draft.{drill_of}
 use Rattle.sw_answer.specs.declared.status.Status.{Status}
 use Rattle.sw_answer.specs.declared.status.Status.TheVariants as statuses
@@ -159,11 +162,17 @@ abbrev pub settings_status : Result Values SettingsFault → Status
 settings_status (Ok v) = statuses.Ok
 settings_status (Err fault) = statuses.Settings fault
 
+-- the status of lines on timers
+abbrev pub timers_status : Result (List TimerLine) ℕ → Status
+timers_status (Ok lines) = statuses.Ok
+timers_status (Err n) = statuses.BadLine n
+
 -- the status that the input alone asks for
 abbrev pub Expected : Command → List ℕ → Status → Type 0
 Expected DrillCommand input status = status ≡ expected (drill_of input)
 Expected Audit input status = Judged input status
 Expected SettingsCommand input status = status ≡ settings_status (json_settings input)
+Expected Timers input status = status ≡ timers_status (lines_from 1 (lines_of input))
 
 -- without a fault, an input that isn't too long is answered by its text alone, unless memory runs out
 abbrev pub IsComplete : List (List ℕ) → FromSource → FromSink → Status → Type 0

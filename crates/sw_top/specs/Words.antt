@@ -2,11 +2,11 @@
 use Rattle.std.specs.Prelude.{ℕ, List, [], ◌∷◌, codes, Option, Some, None, if◌then◌else◌}
 use Rattle.std.specs.Str.{bytes_eq}
 use Rattle.sw_top.specs.declared.words.Command.{Command}
-use Rattle.sw_top.specs.declared.words.Command.TheVariants.{Drill, Audit, Settings}
+use Rattle.sw_top.specs.declared.words.Command.TheVariants.{Drill, Audit, Settings, Timers}
 
 -- the command of this name
 abbrev pub named : List ℕ → Option Command
-named word = if bytes_eq word (codes "drill") then Some Drill else if bytes_eq word (codes "audit") then Some Audit else if bytes_eq word (codes "settings") then Some Settings else None
+named word = if bytes_eq word (codes "drill") then Some Drill else if bytes_eq word (codes "audit") then Some Audit else if bytes_eq word (codes "settings") then Some Settings else if bytes_eq word (codes "timers") then Some Timers else None
 
 -- the command that the words name: they are its name alone
 abbrev pub command_of : List (List ℕ) → Option Command

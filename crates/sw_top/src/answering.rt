@@ -6,6 +6,7 @@ ghost use Rattle.sw_answer.specs.Seen.{text_seen};
 
 use crate::auditing::audited;
 use crate::showing::shown;
+use crate::timing::timers_played;
 use crate::words::Command;
 use std::alloc::Global;
 use sw_answer::Refusal;
@@ -24,5 +25,6 @@ pub fn answer(
         Command::Drill => drilled(alloc, input),
         Command::Audit => audited(alloc, input),
         Command::Settings => shown(alloc, input),
+        Command::Timers => timers_played(alloc, input),
     }
 }

@@ -97,8 +97,9 @@ fn work<S: Source, K: Sink>(alloc: Global, words: &[Word], source: &mut S, sink:
 }
 
 /// Does what the words name with what the source gives, writes one text to the sink, and answers how it ended. The commands
-/// are `drill`, which plays the schedule that it reads and prints the record, and `audit`, which judges the trace that it reads
-/// and prints its verdict. It waits for nobody and returns.
+/// are `drill`, which plays the schedule that it reads and prints the record, `audit`, which judges the trace that it reads and
+/// prints its verdict, `settings`, which prints each key with its value, and `timers`, which plays lines on timers and prints
+/// what they answer. It waits for nobody and returns.
 ///
 /// Usage comes first; then ReadFault or InputLong, while reading; then BadLine; then Settings; then the run, and No. WriteFault
 /// comes only where the sink failed, and replaces any other status but OutOfMemory. The text is made whole before it is written.

@@ -1,5 +1,5 @@
 //! The program's commands, over any source and any sink: words in, a status out, and in between a schedule that is played in
-//! the core, or a trace of the Table that is judged.
+//! the core, a trace of the Table that is judged, settings that are shown, or timers that are played.
 #![tactic(auto)]
 
 mod answering;
@@ -7,6 +7,7 @@ mod auditing;
 mod command;
 mod line;
 mod showing;
+mod timing;
 mod word;
 mod words;
 

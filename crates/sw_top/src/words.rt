@@ -15,6 +15,8 @@ pub enum Command {
     Audit,
     /// Settings in JSON are printed, each key with its value.
     Settings,
+    /// Lines on timers are played, and what they answer is printed.
+    Timers,
 }
 
 fn named(word: &[u8]) -> Option<Command>
@@ -26,6 +28,8 @@ fn named(word: &[u8]) -> Option<Command>
         Some(Command::Audit)
     } else if is(word, "settings") {
         Some(Command::Settings)
+    } else if is(word, "timers") {
+        Some(Command::Timers)
     } else {
         None
     }

@@ -9,7 +9,8 @@ use sw_top::command_line;
 /// What is printed on standard error beside `fault usage`.
 const USAGE: &str = "usage: swd drill     reads a schedule, plays it and prints the record
        swd settings  reads a JSON object and prints all settings
-       swd audit     reads a trace of calls of the Table and judges it";
+       swd audit     reads a trace of calls of the Table and judges it
+       swd timers    reads lines on timers, plays them and prints what they answer";
 
 /// The exit status of words that are no command.
 const IS_USAGE: u8 = 2;
