@@ -8,4 +8,4 @@ pub returns-clause-turns : goal.returns-clause-turns
 returns-clause-turns g c =
     turns_by (rules_of g.B.Book.look_finds g.B.Book.bind_finds g.S.Shelf.call_gives (Acts g.H.Handler.acts) g.C.Board.goes g.C.Board.sizes)
     c.args.self.now c.args.book.now c.args.shelf.now c.args.board.now c.args.got
-    c.turn.new.self c.turn.new.book c.turn.new.shelf c.turn.new.board c.turn.result c.turn.ensures.turns
+    c.turn.new.self c.turn.new.book c.turn.new.shelf c.turn.new.board c.turn.result (rw c.self.view_is at c.turn.ensures.turns)
