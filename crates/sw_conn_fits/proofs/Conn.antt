@@ -198,7 +198,7 @@ cuts_chosen : {L K : Type 0} (t : Terms) (ps : List (List ℕ)) (ws : List ℕ) 
 cuts_chosen {L} {K} t ps ws n c d step free h (m, i, e, f) =
     (let cutter : c.cutter ≡ record { framing = t.framing; pieces = ps; given = n } = h free in
     chosen_same t ps ws n (λ a k. cuts_next t a k (shown ps ws n c)) (serving.cut_by m c).conn d (serving.cut_by m c).step step e f
-      (answered_by t ps ws n c free cutter (next_of (record { framing = t.framing; pieces = ps; given = n })) m (subst (λ (x : Cutting). IsAnswer (next_of x) m) cutter i) (ap next_of cutter)))
+    (answered_by t ps ws n c free cutter (next_of (record { framing = t.framing; pieces = ps; given = n })) m (subst (λ (x : Cutting). IsAnswer (next_of x) m) cutter i) (ap next_of cutter)))
 
 ended_chosen : {L K : Type 0} (t : Terms) (ps : List (List ℕ)) (ws : List ℕ) (n : ℕ) (c : Conn L K) (e : Cause) → IsCut t ps n c → IsChosen t ps ws n (λ a k. end_by t a k e (shown ps ws n c)) c (serving.ended_by (settings t) c e)
 ended_chosen {L} {K} t ps ws n c e h = pick (table.closes t c.phase) refl (table.can_leave (shown ps ws n c))
@@ -271,7 +271,7 @@ served_is {L} {K} gives t ps ws n c l d wrote step h f m =
       starved = v.starved;
       taken = v.taken;
       is = λ a k e g. subst (λ (x : Row). IsStep t a k (shown ps ws2 v.taken d) step (held_by t a k (table.cleared x).held (table.cleared x)))
-        (shown_flushed gives ps ws n c l wrote f ∙ ap (λ (w : LinkWrite). table.flushed w (shown ps ws n c)) (sym e)) (v.is a k g);
+          (shown_flushed gives ps ws n c l wrote f ∙ ap (λ (w : LinkWrite). table.flushed w (shown ps ws n c)) (sym e)) (v.is a k g);
       cut = v.cut;
       reads = v.reads;
     }

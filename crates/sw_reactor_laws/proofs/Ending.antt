@@ -217,16 +217,18 @@ some_link s (Some u) = elim (equal_or_not u s) [ inl e ↦ inl (ap Some e) | inr
 find_over : (s : ℕ) (ls : List LinkRecord) → ((l : LinkRecord) × (Has l ls × (session_of l.state ≡ Some s))) ⊎ Each (λ u. ¬ (u ≡ s)) (collect session_over ls)
 find_over s [] = inr tt
 find_over s (l ∷ ls) =
-    elim (some_link s (session_of l.state))
-      [ inl e ↦ inl (l, ((0, refl), e))
-      | inr n ↦ elim (find_over s ls) [ inl f ↦ inl (f.0, ((suc f.1.0.0, f.1.0.1), f.1.1)) | inr m ↦ inr (each_append (λ u. ¬ (u ≡ s)) (session_over l) (collect session_over ls) n m) ] ]
+    elim (some_link s (session_of l.state)) [
+      | inl e ↦ inl (l, ((0, refl), e))
+      | inr n ↦ elim (find_over s ls) [ inl f ↦ inl (f.0, ((suc f.1.0.0, f.1.0.1), f.1.1)) | inr m ↦ inr (each_append (λ u. ¬ (u ≡ s)) (session_over l) (collect session_over ls) n m) ]
+    ]
 
 find_link : (t : Terms) (s : ℕ) (cs : List Conn) (ls : List LinkRecord) → ((l : LinkRecord) × (Has l (live_links t cs ++ ls) × (session_of l.state ≡ Some s))) ⊎ Each (λ u. ¬ (u ≡ s)) (sessions cs ls)
 find_link t s [] ls = find_over s ls
 find_link t s (c ∷ cs) ls =
-    elim (equal_or_not c.session s)
-      [ inl e ↦ inl (live_link t c, ((0, refl), ap Some e))
-      | inr n ↦ elim (find_link t s cs ls) [ inl f ↦ inl (f.0, ((suc f.1.0.0, f.1.0.1), f.1.1)) | inr m ↦ inr (n, m) ] ]
+    elim (equal_or_not c.session s) [
+      | inl e ↦ inl (live_link t c, ((0, refl), ap Some e))
+      | inr n ↦ elim (find_link t s cs ls) [ inl f ↦ inl (f.0, ((suc f.1.0.0, f.1.0.1), f.1.1)) | inr m ↦ inr (n, m) ]
+    ]
 
 none_fresh : (s : ℕ) (ms : List Message) → Each (λ u. ¬ (u ≡ s)) (collect fresh_in ms) → collect (fresh_of s) ms ≡ []
 none_fresh s [] g = refl

@@ -127,7 +127,7 @@ freed_is t word _ _ _ (First starved a f) = chosen_freed t a started started.las
 freed_is t word _ _ _ (Then {took = took} {pushed = pushed} {r = r} before later more got call starved a f) =
     chosen_freed t a (settled t starved got r) r.last
     ∙ ap (λ (zs : List (ℕ × ℕ)). zs ++ at_served (frees t a (settled t starved got r).round) r.last (settled t starved got r).next)
-        (ap (collect freed_of) (settled_over t starved got r) ∙ freed_is t word took pushed r before)
+    (ap (collect freed_of) (settled_over t starved got r) ∙ freed_is t word took pushed r before)
 
 -- the sessions that are listed, at every moment
 pub record Listed (took : Mail) (cs : List Conn) (ls : List LinkRecord) : Type 0 where
@@ -219,8 +219,10 @@ live_session t (c ∷ cs) l s (suc k, e) q = (let r = live_session t cs l s (k, 
 pub freed_kept : (t : Terms) (took : Mail) (cs : List Conn) (ls : List LinkRecord) → Listed took cs ls → (s : ℕ) → Has s (firsts (collect freed_of ls)) → ((l : LinkRecord) × (Has l (live_links t cs ++ ls) × (session_of l.state ≡ Some s))) × ((l : LinkRecord) → Has l (live_links t cs ++ ls) → session_of l.state ≡ Some s → (e : Ended) × (l.state ≡ Over e))
 freed_kept t took cs ls d s has =
     let here : Has s (collect session_over ls) = subst (Has s) (firsts_freed ls d.ended) has in
-    let one = over_link_of s ls here in
-    ((one.0, (has_right one.0 (live_links t cs) ls one.1.0, one.1.1)),
-     λ l at is. elim (has_either l (live_links t cs) ls at)
-       [ inl f ↦ absurd (distinct_apart s (collect session_in cs) (collect session_over ls) d.distinct (live_session t cs l s f is) here)
-       | inr g ↦ each_has (λ (k : LinkRecord). (e : Ended) × (k.state ≡ Over e)) ls d.ended l g ])
+    let one = over_link_of s ls here in (
+      (one.0, (has_right one.0 (live_links t cs) ls one.1.0, one.1.1)),
+      λ l at is. elim (has_either l (live_links t cs) ls at) [
+        | inl f ↦ absurd (distinct_apart s (collect session_in cs) (collect session_over ls) d.distinct (live_session t cs l s f is) here)
+        | inr g ↦ each_has (λ (k : LinkRecord). (e : Ended) × (k.state ≡ Over e)) ls d.ended l g
+      ],
+    )

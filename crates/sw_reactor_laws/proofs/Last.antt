@@ -191,7 +191,7 @@ runs_lasts t word _ _ _ (First starved a f) first = chosen_lasts t a [] started 
 runs_lasts t word _ _ _ (Then {took = took} {pushed = pushed} {r = r} before later more got call starved a f) first =
     let c = runs_counts t word took pushed r before in
     chosen_lasts t a more (settled t starved got r) (call_counts t r took pushed later more got call c starved).tight
-      (call_lasts t r took pushed later more got call first c.counts.ends (runs_lasts t word took pushed r before (first_called r took pushed later more got call first)) starved) r.last
+    (call_lasts t r took pushed later more got call first c.counts.ends (runs_lasts t word took pushed r before (first_called r took pushed later more got call first)) starved) r.last
 
 -- to no other worker was anything pushed
 none_beyond : (t : Terms) (j : ℕ) (pushed : Mail) → t.worker_num ≤ j → Each (ToWorker t) pushed → of (Worker j) pushed ≡ []
@@ -214,6 +214,7 @@ none_beyond t j ((to, m) ∷ ms) le h = ap (λ (zs : List Message). zs ++ of (Wo
 pub finished_last : (t : Terms) (word : ℕ → ℕ) → 0 < t.worker_num → (took pushed : Mail) (r : Reactor) → Runs t word took pushed r → LinksFirst took → r.last ≡ Finished → (j : ℕ) → LastMarked no_more (of (Worker j) pushed)
 finished_last t word some took pushed r runs first e j =
     let d = (runs_counts t word took pushed r runs).done e in
-    elim (cases_lt j t.worker_num)
-      [ inl lt ↦ (runs_lasts t word took pushed r runs first).lasts.last j (let k : t.worker_num ≤ r.given = d.all_given in omega arith)
-      | inr le ↦ subst (LastMarked no_more) (sym (none_beyond t j pushed le (runs_straight t word some took pushed r runs).pushed_is)) tt ]
+    elim (cases_lt j t.worker_num) [
+      | inl lt ↦ (runs_lasts t word took pushed r runs first).lasts.last j (let k : t.worker_num ≤ r.given = d.all_given in omega arith)
+      | inr le ↦ subst (LastMarked no_more) (sym (none_beyond t j pushed le (runs_straight t word some took pushed r runs).pushed_is)) tt
+    ]

@@ -244,7 +244,7 @@ serve_rests t rs ws a k c h =
     let same : d.session ≡ (serve t a k c).conn.session = sym v.session in
     record {
       conn = subst (λ (u : ℕ). RestsIf t (rs ++ when (serve t a k c).reads (u, a.read)) (ws ++ writes_at a k c) (serve t a k c).conn.session (serve t a k c).conn.pieces (serve t a k c).conn.cause) s
-        (subst (λ (u : ℕ). RestsIf t (rs ++ when (serve t a k c).reads (d.session, a.read)) (ws ++ writes_at a k c) u (serve t a k c).conn.pieces (serve t a k c).conn.cause) same v.conn);
+          (subst (λ (u : ℕ). RestsIf t (rs ++ when (serve t a k c).reads (d.session, a.read)) (ws ++ writes_at a k c) u (serve t a k c).conn.pieces (serve t a k c).conn.cause) same v.conn);
       leaves = v.leaves;
     }
 
@@ -258,8 +258,8 @@ link_more t rs rs2 ws ws2 l h s e p q = (on_more t rs rs2 ws ws2 s l.pieces e.ca
 over_rests : (t : Terms) (rs : List (ℕ × Read)) (ws : List (ℕ × LinkWrite)) (d : Conn) (u : ℕ) (e : Cause) → ConnRests t rs ws d → d.cause ≡ Some e → LinkRests t rs ws (over_link t d u e)
 over_rests t rs ws d u e h caused s x p q =
     subst (λ (y : ℕ). RestsOn t rs ws y d.pieces x.cause × (x.fd ≡ y % t.max_conn) × (x.ip ≡ d.ip)) (some_same d.session s p)
-      (subst (λ (y : Ended). RestsOn t rs ws d.session d.pieces y.cause × (y.fd ≡ d.session % t.max_conn) × (y.ip ≡ d.ip)) (ends_same (account t d u e) x q)
-        (subst (RestsIf t rs ws d.session d.pieces) caused h, refl, refl))
+    (subst (λ (y : Ended). RestsOn t rs ws d.session d.pieces y.cause × (y.fd ≡ d.session % t.max_conn) × (y.ip ≡ d.ip)) (ends_same (account t d u e) x q)
+    (subst (RestsIf t rs ws d.session d.pieces) caused h, refl, refl))
   where
     some_same : (x y : ℕ) → Some x ≡ Some y → x ≡ y
     some_same x y q = cc
@@ -281,7 +281,7 @@ serves_rests t rs ws a r h (c ∷ cs) e =
     let sides = around (ConnRests t rs ws) (ConnRests t (rs ++ rs2) (ws ++ ws2)) r.done cs c v.conn (λ b k. if_more t rs rs2 ws ws2 b.session b.pieces b.cause k) here now.conn in
     let later : AllRest t (rs ++ rs2) (ws ++ ws2) r = both_more (ConnRests t rs ws) (ConnRests t (rs ++ rs2) (ws ++ ws2)) (LinkRests t rs ws) (LinkRests t (rs ++ rs2) (ws ++ ws2)) (λ b k. if_more t rs rs2 ws ws2 b.session b.pieces b.cause k) (λ l k. link_more t rs rs2 ws ws2 l k) r h in
     served_both (ConnRests t (rs ++ rs2) (ws ++ ws2)) (LinkRests t (rs ++ rs2) (ws ++ ws2)) t a (writes a.write c) cs v.conn v.does (record r { round = counted v.cuts r.round }) sides.0 sides.1
-      (λ x q. over_rests t (rs ++ rs2) (ws ++ ws2) v.conn a.released x now.conn (now.leaves x q)) later.over
+    (λ x q. over_rests t (rs ++ rs2) (ws ++ ws2) v.conn a.released x now.conn (now.leaves x q)) later.over
   where
     own : (c : Conn) (done cs : List Conn) → Each (ConnRests t rs ws) (done ++ c ∷ cs) → ConnRests t rs ws c
     own c [] cs k = k.0
@@ -302,5 +302,5 @@ runs_rest t word _ _ _ (First starved a f) = chosen_rests t [] [] a started (rec
 runs_rest t word _ _ _ (Then {took = took} {pushed = pushed} {r = r} before later more got call starved a f) =
     let q : AllRest t (reads_in before) (writes_in before) r = runs_rest t word took pushed r before in
     chosen_rests t (reads_in before) (writes_in before) a (settled t starved got r)
-      (record { conns = settled_each t (ConnRests t (reads_in before) (writes_in before)) (settled_rests t (reads_in before) (writes_in before)) starved got r q.conns; over = subst (Each (LinkRests t (reads_in before) (writes_in before))) (sym (settled_over t starved got r)) q.over })
-      r.last
+    (record { conns = settled_each t (ConnRests t (reads_in before) (writes_in before)) (settled_rests t (reads_in before) (writes_in before)) starved got r q.conns; over = subst (Each (LinkRests t (reads_in before) (writes_in before))) (sym (settled_over t starved got r)) q.over })
+    r.last

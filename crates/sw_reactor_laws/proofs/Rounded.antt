@@ -164,24 +164,24 @@ one_round : (t : Terms) (pushed later : Mail) (before cs : List Conn) (c g : Con
 one_round t pushed later before cs c g ls k n cuts at r p q h e f =
     record {
       spread = λ one j.
-        (let a : sum_of (holds_at j) (before ++ c ∷ cs) ≡ holds_at j c + sum_of (holds_at j) (before ++ cs) = sum_mid (holds_at j) before c cs in
-        let b : sum_of (holds_at j) (before ++ g ∷ cs) ≡ holds_at j g + sum_of (holds_at j) (before ++ cs) = sum_mid (holds_at j) before g cs in
-        let s : packets_at j pushed + sum_of (holds_at j) (before ++ c ∷ cs) ≤ rounds t.worker_num k j = r.spread one j in
-        let u : rounds t.worker_num (counted cuts k) j ≡ rounds t.worker_num k j + turns t k cuts j = rounds_counted t k cuts j in
-        let v : packets_at j later ≡ packets_at j pushed + at j = p j in
-        let w : at j + holds_at j g ≤ holds_at j c + turns t k cuts j = h one j in
-        omega arith);
+          (let a : sum_of (holds_at j) (before ++ c ∷ cs) ≡ holds_at j c + sum_of (holds_at j) (before ++ cs) = sum_mid (holds_at j) before c cs in
+          let b : sum_of (holds_at j) (before ++ g ∷ cs) ≡ holds_at j g + sum_of (holds_at j) (before ++ cs) = sum_mid (holds_at j) before g cs in
+          let s : packets_at j pushed + sum_of (holds_at j) (before ++ c ∷ cs) ≤ rounds t.worker_num k j = r.spread one j in
+          let u : rounds t.worker_num (counted cuts k) j ≡ rounds t.worker_num k j + turns t k cuts j = rounds_counted t k cuts j in
+          let v : packets_at j later ≡ packets_at j pushed + at j = p j in
+          let w : at j + holds_at j g ≤ holds_at j c + turns t k cuts j = h one j in
+          omega arith);
       most =
-        (let a : sum_of taken_of (before ++ c ∷ cs) ≡ c.taken + sum_of taken_of (before ++ cs) = sum_mid taken_of before c cs in
-        let b : sum_of taken_of (before ++ g ∷ cs) ≡ g.taken + sum_of taken_of (before ++ cs) = sum_mid taken_of before g cs in
-        let s : k ≤ sum_of taken_of (before ++ c ∷ cs) + sum_of (cut_of t) ls = r.most in
-        let u : counted cuts k ≡ k + one_if cuts = counted_is cuts k in
-        omega arith);
+          (let a : sum_of taken_of (before ++ c ∷ cs) ≡ c.taken + sum_of taken_of (before ++ cs) = sum_mid taken_of before c cs in
+          let b : sum_of taken_of (before ++ g ∷ cs) ≡ g.taken + sum_of taken_of (before ++ cs) = sum_mid taken_of before g cs in
+          let s : k ≤ sum_of taken_of (before ++ c ∷ cs) + sum_of (cut_of t) ls = r.most in
+          let u : counted cuts k ≡ k + one_if cuts = counted_is cuts k in
+          omega arith);
       sent =
-        (let a : sum_of sent_of (before ++ c ∷ cs) ≡ c.dispatched + sum_of sent_of (before ++ cs) = sum_mid sent_of before c cs in
-        let b : sum_of sent_of (before ++ g ∷ cs) ≡ g.dispatched + sum_of sent_of (before ++ cs) = sum_mid sent_of before g cs in
-        let s : length (collect packet_msg (bare pushed)) ≡ sum_of sent_of (before ++ c ∷ cs) + total ls = r.sent in
-        omega arith);
+          (let a : sum_of sent_of (before ++ c ∷ cs) ≡ c.dispatched + sum_of sent_of (before ++ cs) = sum_mid sent_of before c cs in
+          let b : sum_of sent_of (before ++ g ∷ cs) ≡ g.dispatched + sum_of sent_of (before ++ cs) = sum_mid sent_of before g cs in
+          let s : length (collect packet_msg (bare pushed)) ≡ sum_of sent_of (before ++ c ∷ cs) + total ls = r.sent in
+          omega arith);
     }
 
 -- one leaves
@@ -189,21 +189,21 @@ gone_round : (t : Terms) (pushed : Mail) (before cs : List Conn) (c d : Conn) (l
 gone_round t pushed before cs c d ls k u cuts e r p q few =
     record {
       spread = λ one j.
-        (let a : sum_of (holds_at j) (before ++ c ∷ cs) ≡ holds_at j c + sum_of (holds_at j) (before ++ cs) = sum_mid (holds_at j) before c cs in
-        let s : packets_at j pushed + sum_of (holds_at j) (before ++ c ∷ cs) ≤ rounds t.worker_num k j = r.spread one j in
-        let v : rounds t.worker_num (counted cuts k) j ≡ rounds t.worker_num k j + turns t k cuts j = rounds_counted t k cuts j in
-        omega arith);
+          (let a : sum_of (holds_at j) (before ++ c ∷ cs) ≡ holds_at j c + sum_of (holds_at j) (before ++ cs) = sum_mid (holds_at j) before c cs in
+          let s : packets_at j pushed + sum_of (holds_at j) (before ++ c ∷ cs) ≤ rounds t.worker_num k j = r.spread one j in
+          let v : rounds t.worker_num (counted cuts k) j ≡ rounds t.worker_num k j + turns t k cuts j = rounds_counted t k cuts j in
+          omega arith);
       most =
-        (let a : sum_of taken_of (before ++ c ∷ cs) ≡ c.taken + sum_of taken_of (before ++ cs) = sum_mid taken_of before c cs in
-        let s : k ≤ sum_of taken_of (before ++ c ∷ cs) + sum_of (cut_of t) ls = r.most in
-        let v : counted cuts k ≡ k + one_if cuts = counted_is cuts k in
-        let w : sum_of (cut_of t) (ls ++ over_link t d u e ∷ []) ≡ sum_of (cut_of t) ls + length (packets_cut t d.pieces) = cut_append t ls (over_link t d u e) in
-        omega arith);
+          (let a : sum_of taken_of (before ++ c ∷ cs) ≡ c.taken + sum_of taken_of (before ++ cs) = sum_mid taken_of before c cs in
+          let s : k ≤ sum_of taken_of (before ++ c ∷ cs) + sum_of (cut_of t) ls = r.most in
+          let v : counted cuts k ≡ k + one_if cuts = counted_is cuts k in
+          let w : sum_of (cut_of t) (ls ++ over_link t d u e ∷ []) ≡ sum_of (cut_of t) ls + length (packets_cut t d.pieces) = cut_append t ls (over_link t d u e) in
+          omega arith);
       sent =
-        (let a : sum_of sent_of (before ++ c ∷ cs) ≡ c.dispatched + sum_of sent_of (before ++ cs) = sum_mid sent_of before c cs in
-        let s : length (collect packet_msg (bare pushed)) ≡ sum_of sent_of (before ++ c ∷ cs) + total ls = r.sent in
-        let v : total (ls ++ over_link t d u e ∷ []) ≡ total ls + d.dispatched = total_append t ls d u e in
-        omega arith);
+          (let a : sum_of sent_of (before ++ c ∷ cs) ≡ c.dispatched + sum_of sent_of (before ++ cs) = sum_mid sent_of before c cs in
+          let s : length (collect packet_msg (bare pushed)) ≡ sum_of sent_of (before ++ c ∷ cs) + total ls = r.sent in
+          let v : total (ls ++ over_link t d u e ∷ []) ≡ total ls + d.dispatched = total_append t ls d u e in
+          omega arith);
     }
 
 -- the list behind a serve
@@ -231,38 +231,39 @@ zero_more : (j : ℕ) (pushed : Mail) → packets_at j pushed ≡ packets_at j p
 zero_more j pushed = omega arith
 
 served_round : (t : Terms) (n : ℕ) (took pushed : Mail) (a : Answers) (moved cuts : Bool) (c d : Conn) (cs : List Conn) (o : Does) (r : Reactor) (k : ℕ) → r.round ≡ counted cuts k → Each (λ (b : Conn). ¬ (b.session ≡ d.session)) (r.done ++ cs) → ServedBy t n took pushed d o → Round t pushed (r.done ++ c ∷ cs) r.over k → d.taken ≡ c.taken + one_if cuts → d.dispatched ≡ c.dispatched → Fits t k c cuts d o → RoundAfter t pushed (served_by t a moved cs d o r)
-served_round t n took pushed a moved cuts c d cs (Pushes w e) r k eq others s q p g f =
-    (behind_push t (pushed ++ (Worker w, EventMsg e) ∷ []) (at_event (noted t e) e) (r.done ++ d ∷ []) cs r (Push w (EventMsg e)) (placed (noted t e) (pushed ++ (Worker w, EventMsg e) ∷ []) noted_now),
-     behind_push t pushed (at_event (holds w e) e) (r.done ++ d ∷ []) cs r (Push w (EventMsg e)) (placed (holds w e) pushed held_now))
+served_round t n took pushed a moved cuts c d cs (Pushes w e) r k eq others s q p g f = (
+  behind_push t (pushed ++ (Worker w, EventMsg e) ∷ []) (at_event (noted t e) e) (r.done ++ d ∷ []) cs r (Push w (EventMsg e)) (placed (noted t e) (pushed ++ (Worker w, EventMsg e) ∷ []) noted_now),
+  behind_push t pushed (at_event (holds w e) e) (r.done ++ d ∷ []) cs r (Push w (EventMsg e)) (placed (holds w e) pushed held_now),
+)
   where
     placed : (h : Conn → Conn) (later : Mail) → Round t later (r.done ++ h d ∷ cs) r.over (counted cuts k) → Round t later (map (at_event h e) ((r.done ++ d ∷ []) ++ cs)) r.over r.round
     placed h later x =
         subst (λ (ds : List Conn). Round t later (map (at_event h e) ds) r.over r.round) (sym (append_assoc r.done (d ∷ []) cs))
-          (subst (λ (ds : List Conn). Round t later ds r.over r.round) (sym (map_at h e r.done d cs s.0 others)) (subst (Round t later (r.done ++ h d ∷ cs) r.over) (sym eq) x))
+        (subst (λ (ds : List Conn). Round t later ds r.over r.round) (sym (map_at h e r.done d cs s.0 others)) (subst (Round t later (r.done ++ h d ∷ cs) r.over) (sym eq) x))
 
     noted_now : Round t (pushed ++ (Worker w, EventMsg e) ∷ []) (r.done ++ noted t e d ∷ cs) r.over (counted cuts k)
     noted_now =
         (let m = noted_round t e d in
         one_round t pushed (pushed ++ (Worker w, EventMsg e) ∷ []) r.done cs c (noted t e d) r.over k (is_packet e) cuts (λ j. at_worker j w e) q (λ j. at_more pushed j w (EventMsg e) (is_packet e) (length_packet e)) (all_more pushed w (EventMsg e) ∙ ap (λ (x : ℕ). length (collect packet_msg (bare pushed)) + x) (length_packet e))
-          (λ one j. (let z : holds_at j (noted t e d) ≡ 0 = ap (held_at j) (m.0 ∙ f.0) in let y : at_worker j w e ≤ holds_at j c + turns t k cuts j = f.1 one j in omega arith))
-          (m.1 ∙ p) (m.2 ∙ ap (λ (x : ℕ). x + is_packet e) g))
+        (λ one j. (let z : holds_at j (noted t e d) ≡ 0 = ap (held_at j) (m.0 ∙ f.0) in let y : at_worker j w e ≤ holds_at j c + turns t k cuts j = f.1 one j in omega arith))
+        (m.1 ∙ p) (m.2 ∙ ap (λ (x : ℕ). x + is_packet e) g))
 
     held_now : Round t pushed (r.done ++ holds w e d ∷ cs) r.over (counted cuts k)
     held_now =
         one_round t pushed pushed r.done cs c (holds w e d) r.over k 0 cuts (λ j. 0) q (λ j. zero_more j pushed) (let z : length (collect packet_msg (bare pushed)) ≡ length (collect packet_msg (bare pushed)) + 0 = omega arith in z)
-          (λ one j. (let y : at_worker j w e ≤ holds_at j c + turns t k cuts j = f.1 one j in omega arith)) p (g ∙ (let z : c.dispatched ≡ c.dispatched + 0 = omega arith in z))
+        (λ one j. (let y : at_worker j w e ≤ holds_at j c + turns t k cuts j = f.1 one j in omega arith)) p (g ∙ (let z : c.dispatched ≡ c.dispatched + 0 = omega arith in z))
 served_round t n took pushed a moved cuts c d cs Moves r k eq others s q p g f = behind_serve t pushed (r.done ++ d ∷ []) cs r (quiet_round t pushed cuts c d r.done cs r.over k r.round eq q p g f)
   where
     quiet_round : (t : Terms) (pushed : Mail) (cuts : Bool) (c d : Conn) (done cs : List Conn) (ls : List LinkRecord) (k m : ℕ) → m ≡ counted cuts k → Round t pushed (done ++ c ∷ cs) ls k → d.taken ≡ c.taken + one_if cuts → d.dispatched ≡ c.dispatched → ((j : ℕ) → holds_at j d ≤ holds_at j c) → Round t pushed ((done ++ d ∷ []) ++ cs) ls m
     quiet_round t pushed cuts c d done cs ls k m eq q p g f =
         subst (λ (ds : List Conn). Round t pushed ds ls m) (sym (append_assoc done (d ∷ []) cs)) (subst (Round t pushed (done ++ d ∷ cs) ls) (sym eq)
-          (one_round t pushed pushed done cs c d ls k 0 cuts (λ j. 0) q (λ j. zero_more j pushed) (let z : length (collect packet_msg (bare pushed)) ≡ length (collect packet_msg (bare pushed)) + 0 = omega arith in z) (λ one j. (let y : holds_at j d ≤ holds_at j c = f j in omega arith)) p (g ∙ (let z : c.dispatched ≡ c.dispatched + 0 = omega arith in z))))
+        (one_round t pushed pushed done cs c d ls k 0 cuts (λ j. 0) q (λ j. zero_more j pushed) (let z : length (collect packet_msg (bare pushed)) ≡ length (collect packet_msg (bare pushed)) + 0 = omega arith in z) (λ one j. (let y : holds_at j d ≤ holds_at j c = f j in omega arith)) p (g ∙ (let z : c.dispatched ≡ c.dispatched + 0 = omega arith in z))))
 served_round t n took pushed a moved cuts c d cs Stays r k eq others s q p g f = pick moved
   where
     here : RoundOf t pushed (turned (r.done ++ d ∷ []) cs r)
     here =
         behind_serve t pushed (r.done ++ d ∷ []) cs r (subst (λ (ds : List Conn). Round t pushed ds r.over r.round) (sym (append_assoc r.done (d ∷ []) cs)) (subst (Round t pushed (r.done ++ d ∷ cs) r.over) (sym eq)
-          (one_round t pushed pushed r.done cs c d r.over k 0 cuts (λ j. 0) q (λ j. zero_more j pushed) (let z : length (collect packet_msg (bare pushed)) ≡ length (collect packet_msg (bare pushed)) + 0 = omega arith in z) (λ one j. (let y : holds_at j d ≤ holds_at j c = f j in omega arith)) p (g ∙ (let z : c.dispatched ≡ c.dispatched + 0 = omega arith in z)))))
+        (one_round t pushed pushed r.done cs c d r.over k 0 cuts (λ j. 0) q (λ j. zero_more j pushed) (let z : length (collect packet_msg (bare pushed)) ≡ length (collect packet_msg (bare pushed)) + 0 = omega arith in z) (λ one j. (let y : holds_at j d ≤ holds_at j c = f j in omega arith)) p (g ∙ (let z : c.dispatched ≡ c.dispatched + 0 = omega arith in z)))))
 
     rests : (m : ℕ) (b : Bool) → RoundAfter t pushed (record (turned (r.done ++ d ∷ []) cs r) { still = m; last = rest_by b })
     rests m true = here
@@ -339,8 +340,8 @@ runs_round t a w m word some grows n small _ _ _ (First starved ans faith) f = c
 runs_round t a w m word some grows n small _ _ _ (Then {took = took} {pushed = pushed} {r = r} before later more got call starved ans faith) f =
     let old : IsFair t n took = call_fair t n r took pushed later more got call f in
     chosen_round t a w ans some grows faith.idle n later more (settled t starved got r)
-      (call_quiet t a w n r took pushed later more got call f (runs_quiet t a w m word some grows n small took pushed r before old) starved)
-      (call_round t r took pushed later more got call (runs_round t a w m word some grows n small took pushed r before old) starved) r.last
+    (call_quiet t a w n r took pushed later more got call f (runs_quiet t a w m word some grows n small took pushed r before old) starved)
+    (call_round t r took pushed later more got call (runs_round t a w m word some grows n small took pushed r before old) starved) r.last
 
 -- a finished reactor without a dropped packet: the packets went round
 pub finished_round : (t : Terms) (a : Aim) (w : Ending) → ModeLaws t a w → (word : ℕ → ℕ) → t.mode ≡ 1 → 0 < t.worker_num → Grows t → (n : ℕ) → n < t.reactor_num → (took pushed : Mail) (r : Reactor) → Runs t word took pushed r → IsFair t n took → r.last ≡ Finished → all r ≡ [] → sum_of (cut_of t) r.over ≡ total r.over → (j : ℕ) → j < t.worker_num → packets_at j pushed ≡ rounds t.worker_num (total r.over) j

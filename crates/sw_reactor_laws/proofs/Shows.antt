@@ -60,9 +60,10 @@ some_same : (x y : ℕ) → Some x ≡ Some y → x ≡ y
 some_same x y q = cc
 
 known_tells : (word : ℕ → ℕ) (t : Terms) (c : Conn) → Known word c → TellsWord word (live_link t c)
-known_tells word t c k =
-    ((λ s e p q. absurd (not_over _ e q)),
-     λ s e p q. subst (λ (u : ℕ). (e.uid ≡ 0) ⊎ (e.uid ≡ word u)) (some_same c.session s p) (subst (λ (x : Ended). (x.uid ≡ 0) ⊎ (x.uid ≡ word c.session)) (live_same _ e q) k))
+known_tells word t c k = (
+  (λ s e p q. absurd (not_over _ e q)),
+  λ s e p q. subst (λ (u : ℕ). (e.uid ≡ 0) ⊎ (e.uid ≡ word u)) (some_same c.session s p) (subst (λ (x : Ended). (x.uid ≡ 0) ⊎ (x.uid ≡ word c.session)) (live_same _ e q) k),
+)
 
 over_tells : (word : ℕ → ℕ) (l : LinkRecord) → IsEnd l → TellsUid word l → TellsWord word l
 over_tells word l d h = ((λ s e p q. h e s q (sym (ap session_of q) ∙ p)), λ s e p q. absurd (not_over e d.0 (sym q ∙ d.1)))
@@ -75,6 +76,7 @@ reactor_more t word some fit n small took pushed r run fair =
     let rest : AllRest t (reads_in run) (writes_in run) r = runs_rest t word took pushed r run in
     record {
       packets = counted_total t (AimOf t) (EndOf t) (mode_laws t) word some (fit_grows t fit) n small took pushed r run fair;
+      freed = sym (freed_is t word took pushed r run) ∙ sym (freed_kept_is t (all r) r.over);
       once = subst Distinct (sym e) (right_distinct (collect session_in (all r)) (collect session_over r.over) l.distinct);
       came = subst (Each (λ s. Has s (collect fresh_in (bare took)))) (sym e) (each_at (λ s. Has s (collect fresh_in (bare took))) (collect session_over r.over) (λ s has. perm_has s l.came (has_right s (collect session_in (all r)) (collect session_over r.over) has)));
       release = λ s has. freed_kept t took (all r) r.over l s (subst (λ (zs : List (ℕ × ℕ)). Has s (firsts zs)) (sym (freed_is t word took pushed r run)) has);
@@ -84,9 +86,13 @@ reactor_more t word some fit n small took pushed r run fair =
       stops = kept_each (CalmLink (stop_read run)) t (λ c e q z. absurd (not_over _ e q)) (all r) r.over calm.over;
       rests = kept_each (LinkRests t (reads_in run) (writes_in run)) t (λ c s e p q. absurd (not_over _ e q)) (all r) r.over rest.over;
       uids = each_append (TellsWord word) (live_links t (all r)) r.over (live_each (Known word) (TellsWord word) t (known_tells word t) (all r) (runs_known word t took pushed r run))
-        (both_each (λ (k : LinkRecord). IsEnd k) (TellsUid word) (TellsWord word) (over_tells word) r.over l.ended (runs_over word t took pushed r run));
+          (both_each (λ (k : LinkRecord). IsEnd k) (TellsUid word) (TellsWord word) (over_tells word) r.over l.ended (runs_over word t took pushed r run));
     }
   where
+    freed_kept_is : (t : Terms) (cs : List Conn) (ls : List LinkRecord) → collect freed_of (live_links t cs ++ ls) ≡ collect freed_of ls
+    freed_kept_is t [] ls = refl
+    freed_kept_is t (c ∷ cs) ls = freed_kept_is t cs ls
+
     right_distinct : (xs ys : List ℕ) → Distinct (xs ++ ys) → Distinct ys
     right_distinct [] ys h = h
     right_distinct (x ∷ xs) ys h = right_distinct xs ys h.1

@@ -217,4 +217,4 @@ runs_calm t word _ _ _ (First starved a f) = subst (λ (x : Bool). AllCalm x (tu
 runs_calm t word _ _ _ (Then {took = took} {pushed = pushed} {r = r} before later more got call starved a f) =
     let h : AllCalm (stop_read before) r = runs_calm t word took pushed r before in
     chosen_calm (stop_read before) t a (settled t starved got r)
-      (record { conns = settled_each t (Calm (stop_read before)) (settled_calm (stop_read before) t) starved got r h.conns; over = subst (Each (CalmLink (stop_read before))) (sym (settled_over t starved got r)) h.over }) r.last
+    (record { conns = settled_each t (Calm (stop_read before)) (settled_calm (stop_read before) t) starved got r h.conns; over = subst (Each (CalmLink (stop_read before))) (sym (settled_over t starved got r)) h.over }) r.last

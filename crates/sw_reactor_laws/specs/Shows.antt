@@ -20,7 +20,7 @@ use Rattle.sw_reactor_table.specs.Runs.{Runs}
 use Rattle.sw_reactor_laws.specs.Ending.{LinksFirst}
 use Rattle.sw_reactor_laws.specs.Stopped.{CalmLink, stop_read}
 use Rattle.sw_reactor_laws.specs.Round.{packets_at}
-use Rattle.sw_reactor_laws.specs.Histories.{counted_in, freed_in, firsts, reads_in, writes_in}
+use Rattle.sw_reactor_laws.specs.Histories.{counted_in, freed_in, freed_of, firsts, reads_in, writes_in}
 use Rattle.sw_reactor_laws.specs.Rests.{LinkRests}
 
 -- a link that ended by ServerClose or Reset was asked to
@@ -47,7 +47,8 @@ TellsWord word l = ((s : ℕ) (e : Ended) → session_of l.state ≡ Some s → 
 pub record ReactorMore (t : Terms) (word : ℕ → ℕ) (took pushed : Mail) (r : Reactor) (run : Runs t word took pushed r) : Type 0 where
   -- the packets that it counted are as many as its links show
   pub packets : length (counted_in run) ≡ total (kept t r)
-  -- it released each session once, of a link that came and that it ended
+  -- it released each session once, of a link that came and that it ended, with the uid that the link's end tells
+  pub freed : freed_in run ≡ collect freed_of (kept t r)
   pub once : Distinct (firsts (freed_in run))
   pub came : Each (λ s. Has s (collect fresh_in (bare took))) (firsts (freed_in run))
   pub release : (s : ℕ) → Has s (firsts (freed_in run)) → ((l : LinkRecord) × (Has l (kept t r) × (session_of l.state ≡ Some s))) × ((l : LinkRecord) → Has l (kept t r) → session_of l.state ≡ Some s → IsEnd l)

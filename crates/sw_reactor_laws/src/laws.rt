@@ -7,6 +7,7 @@ ghost use Rattle.sw_past.specs.Routes.{IsFair};
 ghost use Rattle.sw_reactor_table.specs.Reactor.{Reactor, Finished};
 ghost use Rattle.sw_reactor_table.specs.Runs.{Runs};
 ghost use Rattle.sw_reactor_laws.specs.Shows.{ReactorMore, ReactorDone};
+ghost use Rattle.sw_reactor_laws.specs.Bounds.{InBounds};
 
 /// Of what came fairly it shows what it counted and released, and what the ends of its links rest on.
 pub fn a_reactor_shows_more()
@@ -20,4 +21,10 @@ pub fn a_finished_reactor_is_done()
     ensures { (t : Terms) (word : ℕ → ℕ) → 0 < t.worker_num → IsFit t.framing → (n : ℕ) → n < t.reactor_num →
         (took pushed : Mail) (r : Reactor) (run : Runs t word took pushed r) → IsFair t n took → r.last ≡ Finished →
         ReactorDone t took pushed r }
+{}
+
+/// Its counts stay below their bounds, so that nothing is left uncounted.
+pub fn a_reactor_stays_in_bounds()
+    ensures { (t : Terms) (word : ℕ → ℕ) → 0 < t.worker_num → IsFit t.framing → (n : ℕ) → n < t.reactor_num →
+        (took pushed : Mail) (r : Reactor) → Runs t word took pushed r → IsFair t n took → InBounds r }
 {}

@@ -4,4 +4,4 @@
 
 mod laws;
 
-pub use laws::{a_finished_reactor_is_done, a_reactor_shows_more};
+pub use laws::{a_finished_reactor_is_done, a_reactor_shows_more, a_reactor_stays_in_bounds};

@@ -125,5 +125,5 @@ last_due t c pushed e a o w = elim (bool_cases (keeps t.mode)) [ inl k ↦ kept 
     kept : keeps t.mode ≡ true → (b : Bool) → (w == target t c.session c.ip) ≡ b → LastDue t c.session (streams c.session pushed w)
     kept k true q =
         subst (λ (v : ℕ). LastDue t c.session (streams c.session pushed v)) (sym (eq_is w (target t c.session c.ip) q))
-          (subst (LastDue t c.session) (sym (at_target t c.ip c.session c.uid c.split c.pieces c.taken c.dispatched c.cause c.phase pushed k a ∙ ap (λ (p : Phase). told_by t c.session p c.dispatched c.pieces) (o.closed (kept_bound t k)))) (last_story t c.session (take c.dispatched (packets_cut t c.pieces))))
+        (subst (LastDue t c.session) (sym (at_target t c.ip c.session c.uid c.split c.pieces c.taken c.dispatched c.cause c.phase pushed k a ∙ ap (λ (p : Phase). told_by t c.session p c.dispatched c.pieces) (o.closed (kept_bound t k)))) (last_story t c.session (take c.dispatched (packets_cut t c.pieces))))
     kept k false q = subst (LastDue t c.session) (sym (at_others t c.ip c.session c.uid c.split c.pieces c.taken c.dispatched c.cause c.phase pushed k a w (λ r. absurd (let g : true ≡ false = sym (eq_same w (target t c.session c.ip) r) ∙ q in cc)))) tt

@@ -30,7 +30,7 @@ not_hard cause n e q = let r : true ≡ false = ap is_hard (sym q) ∙ e in cc
 longer : (byes : Message → List ℕ) (mid later : Mail) (x : ActorId × Message) (n a b : ℕ) → n ≤ a + length (collect byes (bare (mid ++ later))) → a ≤ b + length (byes x.1) → n ≤ b + length (collect byes (bare (mid ++ (later ++ x ∷ []))))
 longer byes mid later x n a b h k =
     let e : length (collect byes (bare (mid ++ (later ++ x ∷ [])))) ≡ length (collect byes (bare (mid ++ later))) + length (byes x.1) =
-      ap (λ (ms : Mail). length (collect byes (bare ms))) (sym (append_assoc mid later (x ∷ []))) ∙ ap length (more_of byes (mid ++ later) x) ∙ length_append (collect byes (bare (mid ++ later))) (byes x.1) in
+    ap (λ (ms : Mail). length (collect byes (bare ms))) (sym (append_assoc mid later (x ∷ []))) ∙ ap length (more_of byes (mid ++ later) x) ∙ length_append (collect byes (bare (mid ++ later))) (byes x.1) in
     omega arith
 
 further : (early mid later : Mail) (f x : ActorId × Message) (took : Mail) → took ≡ early ++ f ∷ (mid ++ later) → took ++ x ∷ [] ≡ early ++ f ∷ (mid ++ (later ++ x ∷ []))
@@ -73,7 +73,7 @@ flow_mid t ip s cause w u a n took f h x b k =
       written_is = (f.written_is.0 ++ concat (sends_in s x.1), sym (append_assoc w f.written_is.0 (concat (sends_in s x.1))) ∙ ap (λ (bs : List ℕ). bs ++ concat (sends_in s x.1)) f.written_is.1 ∙ sym sends);
       overflow = λ m e. absurd (not_hard cause m h e);
       few =
-        subst (λ (ms : Mail). n ≤ b + length (collect (byes_in s) (bare ms))) (sym (append-nil (f.mid ++ x ∷ [])))
+          subst (λ (ms : Mail). n ≤ b + length (collect (byes_in s) (bare ms))) (sym (append-nil (f.mid ++ x ∷ [])))
           (longer (byes_in s) f.mid [] x n a b (subst (λ (ms : Mail). n ≤ a + length (collect (byes_in s) (bare (f.mid ++ ms)))) (f.soft h) f.few) k);
       why = why_more s cause took x f.why;
     }

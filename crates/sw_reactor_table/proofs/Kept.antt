@@ -120,9 +120,10 @@ over_kept t a w m n took pushed c q e o u r =
         record {
           byes = (let h : dues t c.session pushed ≤ length (collect (byes_in c.session) (bare (q.flows.mid ++ q.flows.later))) = all_due in let k : length (collect (byes_in c.session) (bare (q.flows.mid ++ q.flows.later))) ≤ length (collect (byes_in c.session) (bare took)) = all_byes c.session took q.flows.early q.flows.mid q.flows.later (Door, FreshMsg c.ip c.session) q.flows.split in omega arith);
           last = last_due t c pushed e q.tale o;
-          soft = λ g.
-            (subst (λ (ms : Mail). dues t c.session pushed ≤ length (collect (byes_in c.session) (bare ms))) (ap (λ (ms : Mail). q.flows.mid ++ ms) (q.flows.soft (gentle g)) ∙ append-nil q.flows.mid) all_due,
-             sym (append-nil c.written) ∙ ap (λ (bs : List ℕ). c.written ++ bs) (sym (no_unsent g)) ∙ q.flows.bytes (gentle g));
+          soft = λ g. (
+            subst (λ (ms : Mail). dues t c.session pushed ≤ length (collect (byes_in c.session) (bare ms))) (ap (λ (ms : Mail). q.flows.mid ++ ms) (q.flows.soft (gentle g)) ∙ append-nil q.flows.mid) all_due,
+            sym (append-nil c.written) ∙ ap (λ (bs : List ℕ). c.written ++ bs) (sym (no_unsent g)) ∙ q.flows.bytes (gentle g),
+          );
         }
 
 -- one more message came

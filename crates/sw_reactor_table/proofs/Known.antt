@@ -235,8 +235,8 @@ serves_known word t a r f (c ∷ cs) e h =
     let back = next_known word r c cs e h in
     let s : KnownServed word c.session v = serve_known word t a r.round c (f.look c cs e) back.0 in
     served_known word t a (writes a.write c) cs v.conn v.does (record r { round = counted v.cuts r.round })
-      (each_append (Known word) (r.done ++ v.conn ∷ []) cs (each_append (Known word) r.done (v.conn ∷ []) front (s.known, tt)) back.1)
-      (each_append (Known word) r.done cs front back.1)
+    (each_append (Known word) (r.done ++ v.conn ∷ []) cs (each_append (Known word) r.done (v.conn ∷ []) front (s.known, tt)) back.1)
+    (each_append (Known word) r.done cs front back.1)
 
 stops_known : (word : ℕ → ℕ) (r : Reactor) → Each (Known word) (all r) → (b : Bool) → Each (Known word) (all (record (if b then each_conn stops r else r) { last = Take }))
 stops_known word r h true = each_known word stops (λ c k. k) r h
@@ -261,9 +261,9 @@ honest_of word t a r f h =
     record {
       idle = f.idle;
       released = λ c cs e five.
-        (let back = next_known word r c cs e h in
-        let s : KnownServed word c.session (serve t a r.round c) = serve_known word t a r.round c (f.look c cs e) back.0 in
-        elim s.known [ inl z ↦ inl z | inr z ↦ inr (f.released c cs e ∙ sym (z ∙ ap word s.session)) ]);
+          (let back = next_known word r c cs e h in
+          let s : KnownServed word c.session (serve t a r.round c) = serve_known word t a r.round c (f.look c cs e) back.0 in
+          elim s.known [ inl z ↦ inl z | inr z ↦ inr (f.released c cs e ∙ sym (z ∙ ap word s.session)) ]);
     }
 
 pub honest_then : (word : ℕ → ℕ) (t : Terms) (a : Answers) (starved : Bool) (got : Got Message) (r : Reactor) → IsFaithful t word a (settled t starved got r) → Each (Known word) (all r) → IsHonest t a (settled t starved got r)

@@ -93,8 +93,8 @@ unsettled_shows : (t : Terms) (a : Aim) (w : Ending) (n : ℕ) (took pushed : Ma
 unsettled_shows t a w n took pushed f r same h q =
     let e : sessions (all r) r.over ≡ sessions (all (each_conn f r)) r.over = ap (λ (zs : List ℕ). zs ++ collect session_over r.over) (sym (ap (collect session_in) (sym (map_append f r.done r.next)) ∙ map_same f same (all r))) in
     shows_law t a w n took pushed (all r) r.over
-      (map_back (QuietConn t n took pushed) (Shows t a w took pushed) f h (all r) (subst (Each (QuietConn t n took pushed)) (sym (map_append f r.done r.next)) q.conns))
-      q.over (λ s g. q.stranger s (subst (Each (λ u. ¬ (u ≡ s))) e g)) q.routed
+    (map_back (QuietConn t n took pushed) (Shows t a w took pushed) f h (all r) (subst (Each (QuietConn t n took pushed)) (sym (map_append f r.done r.next)) q.conns))
+    q.over (λ s g. q.stranger s (subst (Each (λ u. ¬ (u ≡ s))) e g)) q.routed
 
 noted_shows : (t : Terms) (a : Aim) (w : Ending) → ModeLaws t a w → (n : ℕ) (took pushed : Mail) (e : Event) (c : Conn) → QuietConn t n took pushed (noted t e c) → Shows t a w took pushed c
 noted_shows t a w m n took pushed (Connect s) c q = live_kept t a w m n took pushed (noted t (Connect s) c) q c.dispatched
@@ -205,7 +205,7 @@ pub runs_quiet : (t : Terms) (a : Aim) (w : Ending) → ModeLaws t a w → (word
 runs_quiet t a w m word some grows n small _ _ _ (First starved ans faith) f = turn_quiet t a w m starved ans Start some grows n small [] [] started (honest_of word t ans started faith tt) (started_quiet t a w n)
 runs_quiet t a w m word some grows n small _ _ _ (Then {took = took} {pushed = pushed} {r = r} before later more got call starved ans faith) f =
     turn_quiet t a w m starved ans got some grows n small later more r (honest_then word t ans starved got r faith (runs_known word t took pushed r before))
-      (call_quiet t a w n r took pushed later more got call f (runs_quiet t a w m word some grows n small took pushed r before (call_fair t n r took pushed later more got call f)) starved)
+    (call_quiet t a w n r took pushed later more got call f (runs_quiet t a w m word some grows n small took pushed r before (call_fair t n r took pushed later more got call f)) starved)
 
 call_below : (t : Terms) (r : Reactor) (took pushed later more : Mail) (got : Got Message) → Called r took pushed later more got → Straight t pushed r → Each (ToWorker t) more
 call_below t r took pushed _ _ _ (TookOne e from m) s = s.pushed_is

@@ -65,9 +65,10 @@ others_not s (c ∷ cs) h = ((λ e. h.0 (sym e)), others_not s cs h.1)
 
 over_not : (t : Terms) (a : Aim) (w : Ending) (took pushed : Mail) (s : ℕ) (ls : List LinkRecord) → Each (λ m. ¬ (s ≡ m)) (collect session_over ls) → (P : LinkRecord → Type 0) → ((l : LinkRecord) (q : QuietOver t a w took pushed l) → ¬ (q.number ≡ s) → P l) → Each (QuietOver t a w took pushed) ls → Each P ls
 over_not t a w took pushed s [] h P f q = tt
-over_not t a w took pushed s (l ∷ ls) h P f q =
-    (f l q.0 (λ e. (subst (Each (λ m. ¬ (s ≡ m))) (ap some_list q.0.session) (each_left (λ m. ¬ (s ≡ m)) (session_over l) (collect session_over ls) h)).0 (sym e)),
-     over_not t a w took pushed s ls (each_right (λ m. ¬ (s ≡ m)) (session_over l) (collect session_over ls) h) P f q.1)
+over_not t a w took pushed s (l ∷ ls) h P f q = (
+  f l q.0 (λ e. (subst (Each (λ m. ¬ (s ≡ m))) (ap some_list q.0.session) (each_left (λ m. ¬ (s ≡ m)) (session_over l) (collect session_over ls) h)).0 (sym e)),
+  over_not t a w took pushed s ls (each_right (λ m. ¬ (s ≡ m)) (session_over l) (collect session_over ls) h) P f q.1,
+)
 
 -- one is served, and nothing is pushed
 pub head_replace : (t : Terms) (a : Aim) (w : Ending) (n : ℕ) (took pushed : Mail) (c d : Conn) (cs : List Conn) (ls : List LinkRecord) → QuietLists t a w n took pushed (c ∷ cs) ls → d.session ≡ c.session → QuietConn t n took pushed d → QuietLists t a w n took pushed (d ∷ cs) ls
@@ -107,7 +108,7 @@ head_push t a w m n took pushed c d cs ls q same v e own below qd =
       over = over_not t a w took pushed s ls (each_right (λ k. ¬ (s ≡ k)) (collect session_in cs) (collect session_over ls) q.distinct.0) (QuietOver t a w took (pushed ++ x ∷ [])) (λ l g k. over_skip t a w m took pushed x l g (other_story g.number s e own (λ z. k (sym z)))) q.over;
       distinct = subst Distinct there q.distinct;
       stranger = λ u h. (let old : Each (λ k. ¬ (k ≡ u)) (sessions (c ∷ cs) ls) = subst (Each (λ k. ¬ (k ≡ u))) (sym there) h in
-        more_of (story_in u) pushed x ∙ ap (λ es. collect (story_in u) (bare pushed) ++ es) (other_story u s e own old.0) ∙ append-nil (collect (story_in u) (bare pushed)) ∙ q.stranger u old);
+          more_of (story_in u) pushed x ∙ ap (λ es. collect (story_in u) (bare pushed) ++ es) (other_story u s e own old.0) ∙ append-nil (collect (story_in u) (bare pushed)) ∙ q.stranger u old);
       routed = each_append (λ (y : ActorId × Message). MayPush t (Reactor n) y.0 y.1) pushed (x ∷ []) q.routed (may_tell t n s v e own q.conns.0.home below, tt);
       came = subst (λ (zs : List ℕ). Perm ℕ zs (collect fresh_in (bare took))) there q.came;
     }
@@ -128,9 +129,9 @@ pub head_leave : (t : Terms) (a : Aim) (w : Ending) → ModeLaws t a w → (n : 
 head_leave t a w m n took pushed c d cs ls q same qd e o u r =
     let l : LinkRecord = over_link t d u e in
     let p : Perm ℕ (sessions (c ∷ cs) ls) (sessions cs (ls ++ l ∷ [])) =
-      subst (Perm ℕ (sessions (c ∷ cs) ls))
-        (sym (ap (λ (zs : List ℕ). collect session_in cs ++ zs) (collect-append session_over ls (l ∷ []) ∙ ap (λ (z : ℕ). collect session_over ls ++ z ∷ []) same) ∙ sym (append_assoc (collect session_in cs) (collect session_over ls) (c.session ∷ []))))
-        (perm_sym (ends_front c.session (sessions cs ls))) in
+    subst (Perm ℕ (sessions (c ∷ cs) ls))
+    (sym (ap (λ (zs : List ℕ). collect session_in cs ++ zs) (collect-append session_over ls (l ∷ []) ∙ ap (λ (z : ℕ). collect session_over ls ++ z ∷ []) same) ∙ sym (append_assoc (collect session_in cs) (collect session_over ls) (c.session ∷ []))))
+    (perm_sym (ends_front c.session (sessions cs ls))) in
     record {
       conns = q.conns.1;
       over = each_append (QuietOver t a w took pushed) ls (l ∷ []) q.over (record { number = d.session; session = refl; kept = over_kept t a w m n took pushed d qd e o u r; why = over_why t took d u e (subst (λ (z : Option Cause). IsCaused d.session z took) o.cause qd.flows.why); ended = (account t d u e, refl) }, tt);
@@ -221,28 +222,28 @@ fresh_quiet t n took pushed starved ip s home none =
     record {
       home = home;
       flows =
-        record {
-          early = took;
-          mid = [];
-          later = [];
-          split = refl;
-          soft = λ e. refl;
-          bytes = λ e. refl;
-          written_is = ([], refl);
-          overflow = λ k e. absurd (over starved k e);
-          few = (let z : dues t s pushed ≡ 0 = ap length (none_due t s pushed none) in omega arith);
-          why = ((λ e. absurd (closed starved e)), (λ e. absurd (reset starved e)));
-        };
+          record {
+            early = took;
+            mid = [];
+            later = [];
+            split = refl;
+            soft = λ e. refl;
+            bytes = λ e. refl;
+            written_is = ([], refl);
+            overflow = λ k e. absurd (over starved k e);
+            few = (let z : dues t s pushed ≡ 0 = ap length (none_due t s pushed none) in omega arith);
+            why = ((λ e. absurd (closed starved e)), (λ e. absurd (reset starved e)));
+          };
       tale =
-        record {
-          told = none;
-          aimed = none_aimed t ip s 0 0 pushed none;
-          in_phase = λ b. refl;
-          seen = omega arith;
-          few = omega arith;
-          least = omega arith;
-          whole = λ e r cut. absurd (whole starved e r cut);
-        };
+          record {
+            told = none;
+            aimed = none_aimed t ip s 0 0 pushed none;
+            in_phase = λ b. refl;
+            seen = omega arith;
+            few = omega arith;
+            least = omega arith;
+            whole = λ e r cut. absurd (whole starved e r cut);
+          };
       held = λ e. refl;
     }
   where
@@ -282,8 +283,8 @@ came_over : (t : Terms) (a : Aim) (w : Ending) (took pushed : Mail) (P : ℕ →
 came_over t a w took pushed P h [] q = tt
 came_over t a w took pushed P h (l ∷ ls) q =
     each_append P (session_over l) (collect session_over ls)
-      (subst (Each P) (sym (ap some_list q.0.session)) (came_each P took q.0.kept.early (q.0.kept.mid ++ q.0.kept.later) l.ip q.0.number q.0.kept.split h, tt))
-      (came_over t a w took pushed P h ls q.1)
+    (subst (Each P) (sym (ap some_list q.0.session)) (came_each P took q.0.kept.early (q.0.kept.mid ++ q.0.kept.later) l.ip q.0.number q.0.kept.split h, tt))
+    (came_over t a w took pushed P h ls q.1)
 
 pub lists_fresh : (t : Terms) (a : Aim) (w : Ending) (n : ℕ) (took pushed : Mail) (cs : List Conn) (ls : List LinkRecord) (starved : Bool) (from : ActorId) (ip s : ℕ) → IsFair t n (took ++ (from, FreshMsg ip s) ∷ []) → QuietLists t a w n took pushed cs ls → QuietLists t a w n (took ++ (from, FreshMsg ip s) ∷ []) pushed (cs ++ fresh starved ip s ∷ []) ls
 lists_fresh t a w n took pushed cs ls starved from ip s fair q =
@@ -296,14 +297,14 @@ lists_fresh t a w n took pushed cs ls starved from ip s fair q =
     let new : Each (λ u. ¬ (u ≡ s)) (sessions cs ls) = each_more (λ u. u < s) (λ u. ¬ (u ≡ s)) (sessions cs ls) (λ u lt e. absurd (omega arith)) under in
     let p : Perm Conn (cs ++ f ∷ []) (f ∷ cs) = subst (λ (ds : List Conn). Perm Conn (cs ++ f ∷ []) (f ∷ ds)) (append-nil cs) (perm_front f cs []) in
     lists_perm t a w n (took ++ x ∷ []) pushed (f ∷ cs) (cs ++ f ∷ []) ls (perm_sym p)
-      (record {
-        conns = (subst (λ (y : ActorId). QuietConn t n (took ++ (y, FreshMsg ip s) ∷ []) pushed f) (sym may.0) (fresh_quiet t n took pushed starved ip s home (q.stranger s new)), each_more (QuietConn t n took pushed) (QuietConn t n (took ++ x ∷ []) pushed) cs (λ c g. plain_keeps t n took pushed c x g refl) q.conns);
-        over = over_took t a w took pushed x ls q.over;
-        distinct = (each_more (λ u. u < s) (λ u. ¬ (s ≡ u)) (sessions cs ls) (λ u lt e. absurd (omega arith)) under, q.distinct);
-        stranger = λ u h. q.stranger u h.1;
-        routed = q.routed;
-        came = subst (Perm ℕ (s ∷ sessions cs ls)) (sym (more_of fresh_in took x)) (Then (Skip s q.came) (perm_sym (ends_front s (collect fresh_in (bare took)))));
-      })
+    (record {
+      conns = (subst (λ (y : ActorId). QuietConn t n (took ++ (y, FreshMsg ip s) ∷ []) pushed f) (sym may.0) (fresh_quiet t n took pushed starved ip s home (q.stranger s new)), each_more (QuietConn t n took pushed) (QuietConn t n (took ++ x ∷ []) pushed) cs (λ c g. plain_keeps t n took pushed c x g refl) q.conns);
+      over = over_took t a w took pushed x ls q.over;
+      distinct = (each_more (λ u. u < s) (λ u. ¬ (s ≡ u)) (sessions cs ls) (λ u lt e. absurd (omega arith)) under, q.distinct);
+      stranger = λ u h. q.stranger u h.1;
+      routed = q.routed;
+      came = subst (Perm ℕ (s ∷ sessions cs ls)) (sym (more_of fresh_in took x)) (Then (Skip s q.came) (perm_sym (ends_front s (collect fresh_in (bare took)))));
+    })
   where
     number : (x y : ℕ) → Reactor x ≡ Reactor y → x ≡ y
     number x y e = cc

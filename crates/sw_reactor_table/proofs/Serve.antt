@@ -234,8 +234,8 @@ cut_right t n took pushed a k c some idle grows q free none begun = at (slice_ge
     packet : (b : List ℕ) → slice_get (packets_cut t c.pieces) c.taken ≡ Some b → ServedRight t n took pushed c.session (cut_by t a k (next.Packet b) c)
     packet b e =
         pushes_right t n took pushed a k (Packet c.session c.dispatched b) true (record c { taken = c.taken + 1 }) some idle free q.home q.flows
-          (tale_taken t c.ip c.session c.uid c.split c.pieces c.taken c.dispatched c.cause c.phase pushed q.tale b e)
-          (refl, refl, begun, not_closing t c.phase c.cause c.dispatched q.tale.in_phase none, ap (slice_get (packets_cut t c.pieces)) (sym even) ∙ e, ap (λ (m : ℕ). m + 1) even)
+        (tale_taken t c.ip c.session c.uid c.split c.pieces c.taken c.dispatched c.cause c.phase pushed q.tale b e)
+        (refl, refl, begun, not_closing t c.phase c.cause c.dispatched q.tale.in_phase none, ap (slice_get (packets_cut t c.pieces)) (sym even) ∙ e, ap (λ (m : ℕ). m + 1) even)
 
     whole : slice_get (packets_cut t c.pieces) c.taken ≡ None → c.dispatched ≡ length (packets_cut t c.pieces)
     whole e = (let h : length (packets_cut t c.pieces) ≤ c.taken = past_end (packets_cut t c.pieces) c.taken e in let g : c.taken ≤ length (packets_cut t c.pieces) = q.tale.few in let v : c.taken ≡ c.dispatched = even in omega arith)

@@ -74,13 +74,13 @@ byes_for u s e = ap (λ (z : Bool). length (when z u)) (eq_same u s (sym (eq_is 
 pub hard_now : (t : Terms) (n : ℕ) (took pushed : Mail) (c : Conn) (e : Cause) → QuietConn t n took pushed c → hard e ≡ true → ((m : ℕ) → Some e ≡ Some (Overflow m) → ⊥) → IsCaused c.session (Some e) took → QuietConn t n took pushed (record c { cause = Some e })
 hard_now t n took pushed c e q h over y =
     cause_keeps t n took pushed took c (Some e) q (e, refl) (λ d r a. absurd (hard_cuts d (let g : e ≡ d = (let z : Some e ≡ Some d = r in cc) in ap hard (sym g) ∙ h) a))
-      (flow_hard t c.ip c.session c.cause (Some e) c.written c.unsent c.unsent c.awaited (dues t c.session pushed) took q.flows h (λ m r. absurd (over m r)) y)
+    (flow_hard t c.ip c.session c.cause (Some e) c.written c.unsent c.unsent c.awaited (dues t c.session pushed) took q.flows h (λ m r. absurd (over m r)) y)
 
 -- its cause as it was
 same_cause : (t : Terms) (n : ℕ) (took pushed : Mail) (c : Conn) (d : Cause) → QuietConn t n took pushed c → c.cause ≡ Some d → QuietConn t n took pushed (record c { cause = Some d })
 same_cause t n took pushed c d q e =
     cause_keeps t n took pushed took c (Some d) q (d, refl) (λ z r a. e ∙ r)
-      (subst (λ (z : Option Cause). Flows t c.ip c.session z c.written c.unsent c.awaited took (dues t c.session pushed)) e q.flows)
+    (subst (λ (z : Option Cause). Flows t c.ip c.session z c.written c.unsent c.awaited took (dues t c.session pushed)) e q.flows)
 
 reset_by : (t : Terms) (n : ℕ) (took pushed : Mail) (c : Conn) (e : Cause) → QuietConn t n took pushed c → hard e ≡ true → ((m : ℕ) → Some e ≡ Some (Overflow m) → ⊥) → IsCaused c.session (Some e) took → (cause : Option Cause) → c.cause ≡ cause → QuietConn t n took pushed (record c { cause = set_hard e cause })
 reset_by t n took pushed c e q h over y None r = hard_now t n took pushed c e q h over y
@@ -96,7 +96,7 @@ stops_keeps t n took pushed c q = reset_by t n took pushed c Stop q refl (λ m r
 close_by : (t : Terms) (n : ℕ) (took pushed : Mail) (c : Conn) → QuietConn t n took pushed c → ¬ (collect (close_of c.session) (bare took) ≡ []) → (cause : Option Cause) → c.cause ≡ cause → QuietConn t n took pushed (record c { cause = set_soft ServerClose cause })
 close_by t n took pushed c q y None r =
     cause_keeps t n took pushed took c (Some ServerClose) q (ServerClose, refl) (λ d z a. absurd (let g : ServerClose ≡ d = (let y : Some ServerClose ≡ Some d = z in cc) in subst IsAllCut (sym g) a))
-      (flow_soft t c.ip c.session c.cause (Some ServerClose) c.written c.unsent c.awaited (dues t c.session pushed) took q.flows (ap is_hard r) refl ((λ e. y), (λ e. absurd (cc))))
+    (flow_soft t c.ip c.session c.cause (Some ServerClose) c.written c.unsent c.awaited (dues t c.session pushed) took q.flows (ap is_hard r) refl ((λ e. y), (λ e. absurd (cc))))
 close_by t n took pushed c q y (Some d) r = same_cause t n took pushed c d q r
 
 sent_keeps : (t : Terms) (n : ℕ) (took pushed : Mail) (starved : Bool) (c : Conn) (from : ActorId) (b : List ℕ) (u : ℕ) → QuietConn t n took pushed c → c.session ≡ u → concat (sends_in c.session (SendMsg u b)) ≡ b → QuietConn t n (took ++ (from, SendMsg u b) ∷ []) pushed (sent t starved b c)
@@ -111,9 +111,9 @@ sent_keeps t n took pushed starved c from b u q same own = pick (is_hard c.cause
     full : is_hard c.cause ≡ false → (d : Bool) → nat_lt t.buffer_size (length c.unsent + length b) ≡ d → QuietConn t n (took ++ (from, SendMsg u b) ∷ []) pushed (if d then record c { cause = Some (Overflow (length c.unsent + length b)) } else (if starved then record c { cause = Some NoMemory } else record c { unsent = c.unsent ++ b }))
     full h true e =
         subst (λ (v : ℕ). QuietConn t n (took ++ (from, SendMsg v b) ∷ []) pushed (record c { cause = Some (Overflow (length c.unsent + length b)) })) same
-          (cause_keeps t n took pushed (took ++ (from, SendMsg c.session b) ∷ []) c (Some (Overflow (length c.unsent + length b))) q (Overflow (length c.unsent + length b), refl)
-            (λ d z a. absurd (let g : Overflow (length c.unsent + length b) ≡ d = (let y : Some (Overflow (length c.unsent + length b)) ≡ Some d = z in cc) in subst IsAllCut (sym g) a))
-            (flow_much t c.ip c.session c.cause c.written c.unsent c.awaited (dues t c.session pushed) took q.flows h from b (lt_is t.buffer_size (length c.unsent + length b) e)))
+        (cause_keeps t n took pushed (took ++ (from, SendMsg c.session b) ∷ []) c (Some (Overflow (length c.unsent + length b))) q (Overflow (length c.unsent + length b), refl)
+        (λ d z a. absurd (let g : Overflow (length c.unsent + length b) ≡ d = (let y : Some (Overflow (length c.unsent + length b)) ≡ Some d = z in cc) in subst IsAllCut (sym g) a))
+        (flow_much t c.ip c.session c.cause c.written c.unsent c.awaited (dues t c.session pushed) took q.flows h from b (lt_is t.buffer_size (length c.unsent + length b) e)))
     full h false e = fed starved
       where
         grown : Flows t c.ip c.session c.cause c.written (c.unsent ++ b) c.awaited (took ++ (from, SendMsg u b) ∷ []) (dues t c.session pushed)
@@ -122,8 +122,8 @@ sent_keeps t n took pushed starved c from b u q same own = pick (is_hard c.cause
         fed : (d : Bool) → QuietConn t n (took ++ (from, SendMsg u b) ∷ []) pushed (if d then record c { cause = Some NoMemory } else record c { unsent = c.unsent ++ b })
         fed true =
             cause_keeps t n took pushed (took ++ (from, SendMsg u b) ∷ []) c (Some NoMemory) q (NoMemory, refl)
-              (λ d z a. absurd (let g : NoMemory ≡ d = (let y : Some NoMemory ≡ Some d = z in cc) in subst IsAllCut (sym g) a))
-              (flow_hard t c.ip c.session c.cause (Some NoMemory) c.written (c.unsent ++ b) c.unsent c.awaited (dues t c.session pushed) (took ++ (from, SendMsg u b) ∷ []) grown refl (λ m r. absurd (cc)) ((λ e. absurd (cc)), (λ e. absurd (cc))))
+            (λ d z a. absurd (let g : NoMemory ≡ d = (let y : Some NoMemory ≡ Some d = z in cc) in subst IsAllCut (sym g) a))
+            (flow_hard t c.ip c.session c.cause (Some NoMemory) c.written (c.unsent ++ b) c.unsent c.awaited (dues t c.session pushed) (took ++ (from, SendMsg u b) ∷ []) grown refl (λ m r. absurd (cc)) ((λ e. absurd (cc)), (λ e. absurd (cc))))
         fed false = record { home = q.home; flows = grown; tale = q.tale; held = q.held }
 
     pick : (d : Bool) → is_hard c.cause ≡ d → QuietConn t n (took ++ (from, SendMsg u b) ∷ []) pushed (if d then c else sent_open t starved b (length c.unsent + length b) c)

@@ -263,8 +263,8 @@ serves_below t a pushed r some idle p (c ∷ cs) e h =
     let back : Each (HoldsBelow t) (c ∷ cs) = subst (Each (HoldsBelow t)) e (each_right (HoldsBelow t) r.done r.next h) in
     let s : StraightServed t v = serve_straight t a r.round c some idle back.0 in
     served_below t a (writes a.write c) pushed r.done cs v.conn v.does (record r { round = counted v.cuts r.round }) refl p
-      (each_append (HoldsBelow t) (r.done ++ v.conn ∷ []) cs (each_append (HoldsBelow t) r.done (v.conn ∷ []) front (s.held, tt)) back.1)
-      (each_append (HoldsBelow t) r.done cs front back.1) s.does
+    (each_append (HoldsBelow t) (r.done ++ v.conn ∷ []) cs (each_append (HoldsBelow t) r.done (v.conn ∷ []) front (s.held, tt)) back.1)
+    (each_append (HoldsBelow t) r.done cs front back.1) s.does
 
 takes_next : (t : Terms) (pushed : Mail) (r : Reactor) → Each (ToWorker t) pushed → Each (HoldsBelow t) (all r) → (b : Bool) → Straight t pushed (record (if b then each_conn stops r else r) { last = Take })
 takes_next t pushed r p h true = record { pushed_is = p; held = each_below t stops (λ c k. k) r h; asks = tt }

@@ -314,8 +314,8 @@ tale_sees t ip s uid split ps taken n cause phase pushed a z look =
     record {
       told = a.told;
       aimed = each_with (λ (x : ActorId × Message). Each (IsAimed t ip s uid split x.0) (story_in s x.1)) (λ (x : ActorId × Message). Each (Below n) (story_in s x.1)) (λ (x : ActorId × Message). Each (IsAimed t ip s look n x.0) (story_in s x.1)) pushed
-        (λ x h k. each_with (IsAimed t ip s uid split x.0) (Below n) (IsAimed t ip s look n x.0) (story_in s x.1) (λ e g b. (g.0, λ five. sided_seen t s uid split look n x.0 e z (g.1 five) b)) h k)
-        a.aimed (of_bare pushed below);
+          (λ x h k. each_with (IsAimed t ip s uid split x.0) (Below n) (IsAimed t ip s look n x.0) (story_in s x.1) (λ e g b. (g.0, λ five. sided_seen t s uid split look n x.0 e z (g.1 five) b)) h k)
+          a.aimed (of_bare pushed below);
       in_phase = a.in_phase;
       seen = omega arith;
       few = a.few;

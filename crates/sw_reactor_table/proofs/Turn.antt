@@ -55,7 +55,7 @@ no_fresh took x e = more_of fresh_in took x ∙ ap (λ zs. collect fresh_in (bar
 took_all : (t : Terms) (a : Aim) (w : Ending) (n : ℕ) (took pushed : Mail) (starved : Bool) (from : ActorId) (m : Message) (r : Reactor) → fresh_in m ≡ [] → Quiet t a w n took pushed r → Quiet t a w n (took ++ (from, m) ∷ []) pushed (each_conn (takes t starved m) r)
 took_all t a w n took pushed starved from m r none q =
     subst (λ (cs : List Conn). QuietLists t a w n (took ++ (from, m) ∷ []) pushed cs r.over) (map_append (takes t starved m) r.done r.next)
-      (lists_map t a w n took (took ++ (from, m) ∷ []) pushed (all r) r.over (takes t starved m) (takes_session t starved m) (λ c g. takes_keeps t n took pushed starved c from m g) (over_took t a w took pushed (from, m) r.over q.over) (no_fresh took (from, m) none) q)
+    (lists_map t a w n took (took ++ (from, m) ∷ []) pushed (all r) r.over (takes t starved m) (takes_session t starved m) (λ c g. takes_keeps t n took pushed starved c from m g) (over_took t a w took pushed (from, m) r.over q.over) (no_fresh took (from, m) none) q)
 
 took_none : (t : Terms) (a : Aim) (w : Ending) (n : ℕ) (took pushed : Mail) (cs : List Conn) (ls : List LinkRecord) (x : ActorId × Message) → fresh_in x.1 ≡ [] → ((c : Conn) → QuietConn t n took pushed c → QuietConn t n (took ++ x ∷ []) pushed c) → QuietLists t a w n took pushed cs ls → QuietLists t a w n (took ++ x ∷ []) pushed cs ls
 took_none t a w n took pushed cs ls x none keeps q =
@@ -79,7 +79,7 @@ take_quiet t a w n took pushed r q = (q, λ starved from m fair. settled_quiet t
 stop_quiet : (t : Terms) (a : Aim) (w : Ending) (n : ℕ) (took pushed : Mail) (r : Reactor) → Quiet t a w n took pushed r → Quiet t a w n took pushed (each_conn stops r)
 stop_quiet t a w n took pushed r q =
     subst (λ (cs : List Conn). QuietLists t a w n took pushed cs r.over) (map_append stops r.done r.next)
-      (lists_map t a w n took took pushed (all r) r.over stops (λ c. refl) (λ c g. stops_keeps t n took pushed c g) q.over refl q)
+    (lists_map t a w n took took pushed (all r) r.over stops (λ c. refl) (λ c g. stops_keeps t n took pushed c g) q.over refl q)
 
 asks_take : (t : Terms) (a : Aim) (w : Ending) (n : ℕ) (took pushed : Mail) (r : Reactor) → Quiet t a w n took pushed r → (b : Bool) → QuietAfter t a w n took pushed (record (if b then each_conn stops r else r) { last = Take })
 asks_take t a w n took pushed r q true = take_quiet t a w n took pushed (record (each_conn stops r) { last = Take }) (stop_quiet t a w n took pushed r q)
@@ -111,9 +111,10 @@ in_front t a w n took pushed done cs d ls q = lists_perm t a w n took pushed (do
 
 -- behind a serve
 served_quiet : (t : Terms) (a : Aim) (w : Ending) → ModeLaws t a w → (n : ℕ) (took pushed : Mail) (ans : Answers) (moved : Bool) (c d : Conn) (cs : List Conn) (o : Does) (r : Reactor) → QuietLists t a w n took pushed (r.done ++ c ∷ cs) r.over → d.session ≡ c.session → ServedBy t n took pushed d o → IsReleased t d ans.released → QuietAfter t a w n took pushed (served_by t ans moved cs d o r)
-served_quiet t a w m n took pushed ans moved c d cs (Pushes v e) r q same s released =
-    (turned_at t a w n took (pushed ++ (Worker v, EventMsg e) ∷ []) (at_event (noted t e) e) (r.done ++ d ∷ []) cs r (Push v (EventMsg e)) (placed (noted t e) (pushed ++ (Worker v, EventMsg e) ∷ []) pushed_at),
-     turned_at t a w n took pushed (at_event (holds v e) e) (r.done ++ d ∷ []) cs r (Push v (EventMsg e)) (placed (holds v e) pushed held_at))
+served_quiet t a w m n took pushed ans moved c d cs (Pushes v e) r q same s released = (
+  turned_at t a w n took (pushed ++ (Worker v, EventMsg e) ∷ []) (at_event (noted t e) e) (r.done ++ d ∷ []) cs r (Push v (EventMsg e)) (placed (noted t e) (pushed ++ (Worker v, EventMsg e) ∷ []) pushed_at),
+  turned_at t a w n took pushed (at_event (holds v e) e) (r.done ++ d ∷ []) cs r (Push v (EventMsg e)) (placed (holds v e) pushed held_at),
+)
   where
     front : QuietLists t a w n took pushed (c ∷ (r.done ++ cs)) r.over
     front = in_front t a w n took pushed r.done cs c r.over q
@@ -124,7 +125,7 @@ served_quiet t a w m n took pushed ans moved c d cs (Pushes v e) r q same s rele
     placed : (f : Conn → Conn) (later : Mail) → QuietLists t a w n took later (r.done ++ f d ∷ cs) r.over → QuietLists t a w n took later (map (at_event f e) ((r.done ++ d ∷ []) ++ cs)) r.over
     placed f later g =
         subst (λ (ds : List Conn). QuietLists t a w n took later (map (at_event f e) ds) r.over) (sym (append_assoc r.done (d ∷ []) cs))
-          (subst (λ (ds : List Conn). QuietLists t a w n took later ds r.over) (sym (map_at f e r.done d cs s.0 others)) g)
+        (subst (λ (ds : List Conn). QuietLists t a w n took later ds r.over) (sym (map_at f e r.done d cs s.0 others)) g)
 
     pushed_at : QuietLists t a w n took (pushed ++ (Worker v, EventMsg e) ∷ []) (r.done ++ noted t e d ∷ cs) r.over
     pushed_at = in_place t a w n took (pushed ++ (Worker v, EventMsg e) ∷ []) r.done cs (noted t e d) r.over (head_push t a w m n took pushed c (noted t e d) (r.done ++ cs) r.over front (noted_session t e d ∙ same) v e (subst (λ (z : ℕ). IsOf z e) same s.0) s.1 s.2)
@@ -136,14 +137,14 @@ served_quiet t a w m n took pushed ans moved c d cs Moves r q same s released = 
     replaced : (t : Terms) (a : Aim) (w : Ending) (n : ℕ) (took pushed : Mail) (c d : Conn) (done cs : List Conn) (ls : List LinkRecord) → QuietLists t a w n took pushed (done ++ c ∷ cs) ls → d.session ≡ c.session → QuietConn t n took pushed d → QuietLists t a w n took pushed ((done ++ d ∷ []) ++ cs) ls
     replaced t a w n took pushed c d done cs ls q same s =
         subst (λ (ds : List Conn). QuietLists t a w n took pushed ds ls) (sym (append_assoc done (d ∷ []) cs))
-          (in_place t a w n took pushed done cs d ls (head_replace t a w n took pushed c d (done ++ cs) ls (in_front t a w n took pushed done cs c ls q) same s))
+        (in_place t a w n took pushed done cs d ls (head_replace t a w n took pushed c d (done ++ cs) ls (in_front t a w n took pushed done cs c ls q) same s))
 served_quiet t a w m n took pushed ans moved c d cs Stays r q same s released = pick moved
   where
     here : Quiet t a w n took pushed (turned (r.done ++ d ∷ []) cs r)
     here =
         turned_quiet t a w n took pushed (r.done ++ d ∷ []) cs r
-          (subst (λ (ds : List Conn). QuietLists t a w n took pushed ds r.over) (sym (append_assoc r.done (d ∷ []) cs))
-            (in_place t a w n took pushed r.done cs d r.over (head_replace t a w n took pushed c d (r.done ++ cs) r.over (in_front t a w n took pushed r.done cs c r.over q) same s)))
+        (subst (λ (ds : List Conn). QuietLists t a w n took pushed ds r.over) (sym (append_assoc r.done (d ∷ []) cs))
+        (in_place t a w n took pushed r.done cs d r.over (head_replace t a w n took pushed c d (r.done ++ cs) r.over (in_front t a w n took pushed r.done cs c r.over q) same s)))
 
     rests : (k : ℕ) (b : Bool) → QuietAfter t a w n took pushed (record (turned (r.done ++ d ∷ []) cs r) { still = k; last = rest_by b })
     rests k true = here

@@ -283,16 +283,16 @@ uid_aim t ip s v split ps taken n cause phase pushed five a l same e there showi
     before (inl (x, inl y)) o = absurd (o (inl y))
     before (inl (x, inr y)) o =
         subst (λ zs. IsPrefix zs (take e.split (packets_on t l))) (sym (one_here t s v split (take n (packets_cut t ps)) (inl x)))
-          (subst (λ zs. IsPrefix zs (take e.split (packets_on t l))) (ap (λ (k : ℕ). take k (numbered 0 (take n (packets_cut t ps)))) y ∙ ap (take n) (numbered_take 0 n (packets_cut t ps)) ∙ take_twice n (numbered 0 (packets_cut t ps)) ∙ sym (numbered_take 0 n (packets_cut t ps))) (prefix_take e.split (numbered 0 (take n (packets_cut t ps))) (packets_on t l) begins))
+        (subst (λ zs. IsPrefix zs (take e.split (packets_on t l))) (ap (λ (k : ℕ). take k (numbered 0 (take n (packets_cut t ps)))) y ∙ ap (take n) (numbered_take 0 n (packets_cut t ps)) ∙ take_twice n (numbered 0 (packets_cut t ps)) ∙ sym (numbered_take 0 n (packets_cut t ps))) (prefix_take e.split (numbered 0 (take n (packets_cut t ps))) (packets_on t l) begins))
     before (inr x) o =
         subst (λ zs. IsPrefix zs (take e.split (packets_on t l))) (ap (λ (k : ℕ). take k (numbered 0 (take n (packets_cut t ps)))) x.2 ∙ sym (two_first t s v split (take n (packets_cut t ps)) (subst (λ (k : ℕ). ¬ IsOneSided t s k) x.1 o)))
-          (prefix_take e.split (numbered 0 (take n (packets_cut t ps))) (packets_on t l) begins)
+        (prefix_take e.split (numbered 0 (take n (packets_cut t ps))) (packets_on t l) begins)
 
     behind : IsShowing v split n e.uid e.split → ¬ IsOneSided t s e.uid → IsPrefix (part (side t s e.uid)) (drop e.split (packets_on t l))
     behind (inl x) o = subst (λ zs. IsPrefix zs (drop e.split (packets_on t l))) (sym (one_other t s v split (take n (packets_cut t ps)) (inl x.0) (side t s e.uid) (λ q. o (inr q)))) (drop e.split (packets_on t l), refl)
     behind (inr x) o =
         subst (λ zs. IsPrefix zs (drop e.split (packets_on t l))) (ap (λ (k : ℕ). drop k (numbered 0 (take n (packets_cut t ps)))) x.2 ∙ sym (two_last t s v split (take n (packets_cut t ps)) (subst (λ (k : ℕ). ¬ IsOneSided t s k) x.1 o)) ∙ ap (λ (k : ℕ). part (side t s k)) (sym x.1))
-          (prefix_drop e.split (numbered 0 (take n (packets_cut t ps))) (packets_on t l) begins)
+        (prefix_drop e.split (numbered 0 (take n (packets_cut t ps))) (packets_on t l) begins)
 
     other : IsShowing v split n e.uid e.split → (w : ℕ) → ¬ (w ≡ side t s 0) → ¬ (w ≡ side t s e.uid) → part w ≡ []
     other (inl x) w h k = one_other t s v split (take n (packets_cut t ps)) (inl x.0) w h
@@ -370,26 +370,27 @@ uid_laws t five =
     record {
       live = λ ip s v split ps taken n cause phase pushed a written d. uid_aim t ip s v split ps taken n cause phase pushed five a (shown_link t ip s v split ps written d) refl _ refl (live_showing v split n d);
       back = λ ip s v split ps taken n cause phase pushed a written d. uid_aim t ip s v split ps taken n cause phase pushed five a (back_link t ip s v split ps written d) refl _ refl (live_showing v split n d);
-      over = λ c pushed a e o u r.
-        (uid_aim t c.ip c.session c.uid c.split c.pieces c.taken c.dispatched c.cause c.phase pushed five a (over_link t c u e) refl (account t c u e) refl (over_showing t c u five r),
-         uid_end t c pushed five a (o.closed (five_bound t five)) (over_link t c u e) refl (account t c u e) refl (over_showing t c u five r));
+      over = λ c pushed a e o u r. (
+        uid_aim t c.ip c.session c.uid c.split c.pieces c.taken c.dispatched c.cause c.phase pushed five a (over_link t c u e) refl (account t c u e) refl (over_showing t c u five r),
+        uid_end t c pushed five a (o.closed (five_bound t five)) (over_link t c u e) refl (account t c u e) refl (over_showing t c u five r),
+      );
       skip_aim = λ s l pushed x none a.
-        record {
-          one = λ e q o. subst (λ zs. IsPrefix zs (packets_on t l)) (skip s pushed x (side t s 0) none) (a.one e q o);
-          before = λ e q o. subst (λ zs. IsPrefix zs (take e.split (packets_on t l))) (skip s pushed x (side t s 0) none) (a.before e q o);
-          behind = λ e q o. subst (λ zs. IsPrefix zs (drop e.split (packets_on t l))) (skip s pushed x (side t s e.uid) none) (a.behind e q o);
-          elsewhere = λ e q w h k. sym (skip s pushed x w none) ∙ a.elsewhere e q w h k;
-          connects = subst (λ (es : List Event). length es ≤ 1) (skip_kind connect_in s pushed x none) a.connects;
-          closeds = subst (λ (es : List Event). length es ≤ 1) (skip_kind closed_in s pushed x none) a.closeds;
-        };
+          record {
+            one = λ e q o. subst (λ zs. IsPrefix zs (packets_on t l)) (skip s pushed x (side t s 0) none) (a.one e q o);
+            before = λ e q o. subst (λ zs. IsPrefix zs (take e.split (packets_on t l))) (skip s pushed x (side t s 0) none) (a.before e q o);
+            behind = λ e q o. subst (λ zs. IsPrefix zs (drop e.split (packets_on t l))) (skip s pushed x (side t s e.uid) none) (a.behind e q o);
+            elsewhere = λ e q w h k. sym (skip s pushed x w none) ∙ a.elsewhere e q w h k;
+            connects = subst (λ (es : List Event). length es ≤ 1) (skip_kind connect_in s pushed x none) a.connects;
+            closeds = subst (λ (es : List Event). length es ≤ 1) (skip_kind closed_in s pushed x none) a.closeds;
+          };
       skip_whole = λ s l e pushed x none a.
-        record {
-          one = λ o. sym (skip s pushed x (side t s 0) none) ∙ a.one o;
-          before = λ o. sym (skip s pushed x (side t s 0) none) ∙ a.before o;
-          behind = λ o. sym (skip s pushed x (side t s e.uid) none) ∙ a.behind o;
-          connect = ap length (sym (skip_kind connect_in s pushed x none)) ∙ a.connect;
-          closed = ap length (sym (skip_kind closed_in s pushed x none)) ∙ a.closed;
-        };
+          record {
+            one = λ o. sym (skip s pushed x (side t s 0) none) ∙ a.one o;
+            before = λ o. sym (skip s pushed x (side t s 0) none) ∙ a.before o;
+            behind = λ o. sym (skip s pushed x (side t s e.uid) none) ∙ a.behind o;
+            connect = ap length (sym (skip_kind connect_in s pushed x none)) ∙ a.connect;
+            closed = ap length (sym (skip_kind closed_in s pushed x none)) ∙ a.closed;
+          };
     }
   where
     five_bound : (u : Terms) → u.mode ≡ 5 → bound u.mode ≡ true

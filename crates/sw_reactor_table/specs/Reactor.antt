@@ -115,9 +115,9 @@ abbrev pub ends_by : Terms → Reactor → Reactor
 ends_by t r =
     if nat_lt 0 r.ends
     then
-      (if nat_lt r.given t.worker_num
-       then record r { last = Push r.given NoMore }
-       else (if r.ends == 1 + t.worker_num + t.tasker_num then record r { last = Finished } else record r { last = Rest }))
+    (if nat_lt r.given t.worker_num
+    then record r { last = Push r.given NoMore }
+    else (if r.ends == 1 + t.worker_num + t.tasker_num then record r { last = Finished } else record r { last = Rest }))
     else record r { last = Rest }
 
 -- the next connection is served, if there is one
@@ -125,7 +125,7 @@ abbrev pub serves : Terms → Answers → List Conn → Reactor → Reactor
 serves t a [] r = ends_by t r
 serves t a (c ∷ cs) r =
     served_by t a (writes a.write c) cs (serve t a r.round c).conn (serve t a r.round c).does
-      (record r { round = counted (serve t a r.round c).cuts r.round })
+    (record r { round = counted (serve t a r.round c).cuts r.round })
 
 -- after a take a serve, and else a take, before which the stop word is read
 abbrev pub chosen : Terms → Answers → Ask → Reactor → Reactor
