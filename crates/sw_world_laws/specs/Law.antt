@@ -16,6 +16,7 @@ use Rattle.sw_world_ports.specs.Calls.{MayDo}
 use Rattle.sw_world_ports.specs.Law.{PortsLaw}
 use Rattle.sw_world_laws.specs.Actors.{Actors}
 use Rattle.sw_world_laws.specs.World.{Pending, Waits, Gave, Lost, Core, there}
+use Rattle.sw_world_laws.specs.Marks.{TaskMarks, FinishMarks}
 use Rattle.sw_world_laws.specs.History.{History, diary_of, LocalBy}
 
 -- what is in a pipe is what was pushed to it and not taken
@@ -38,7 +39,7 @@ IsSound (Waits ask) = Unit {0}
 IsSound (Gave got) = Unit {0}
 IsSound Lost = ⊥
 
--- THE LAW: each actor's own, the pipes', the notes, the session words', the board's and the Table's
+-- THE LAW: each actor's own, the pipes', the notes and marks, the session words', the board's and the Table's
 pub record Holds (t : Terms) (legal : List Ran → Type 0) (p : Actors t) (c : Core p.State) (h : History) : Type 0 where
   pub local : (y : ActorId) → there t y ≡ true → LocalBy t p y (c.states y) (c.nexts y) (diary_of h y)
   pub absent : (y : ActorId) → there t y ≡ false → h.pushed y ≡ []
@@ -47,6 +48,8 @@ pub record Holds (t : Terms) (legal : List Ran → Type 0) (p : Actors t) (c : C
   pub may : (y : ActorId) → Each (MayDo t y) (h.dids y)
   pub lies : (x : ActorId) → Lies (h.took x) (h.sent x) (c.pipes x)
   pub notes : NotesLaw t h.took (λ y. p.log (c.states y))
+  pub task_marks : TaskMarks t (length c.ports.table) h.took (λ y. p.log (c.states y))
+  pub finish_marks : FinishMarks t (length c.ports.table) h.took (λ y. p.log (c.states y))
   pub ports : PortsLaw t legal c.ports h.dids
   pub full : FullLaw t h.refused h.sent
 

@@ -4,5 +4,7 @@ pub mod Done
 pub mod Actors
 pub mod World
 pub mod History
+pub mod Marks
 pub mod Law
 pub mod Account
+pub mod Runs

@@ -1,5 +1,5 @@
 -- What the law of each actor shows at every moment.
-use Rattle.std.specs.Prelude.{◌≡◌, ◌⊎◌, ℕ, ◌+◌, ◌<◌, ◌≤◌, ◌%◌, Bool, List, [], ◌∷◌, ◌++◌, length, Some}
+use Rattle.std.specs.Prelude.{◌≡◌, ◌⊎◌, ℕ, ◌+◌, ◌<◌, ◌≤◌, ◌%◌, Bool, true, List, [], ◌∷◌, ◌++◌, length, Some}
 use Rattle.sw_lists.specs.Lists.{collect, IsPrefix, Each, Has}
 use Rattle.sw_lists.specs.Numbers.{Distinct}
 use Rattle.sw_step.specs.declared.actor.ActorId.{ActorId}

@@ -41,6 +41,10 @@ each_place : (P : ℕ → Type 0) (ps : List (ℕ × Ran)) → Each (λ (p : ℕ
 each_place P [] h = tt
 each_place P (p ∷ ps) h = (h.0, each_place P ps h.1)
 
+-- all places are below the history's length
+pub seats_below : (t : Terms) (legal : List Ran → Type 0) (history : List Ran) (seat : ActorId → List (ℕ × Ran)) (spent : ActorId → List ℕ) → ShelfLaw t legal history seat spent → (z : ActorId) → Each (λ m. m < length history) (places (seat z))
+seats_below t legal history seat spent h z = each_place (λ m. m < length history) (seat z) (each_more (λ (p : ℕ × Ran). slice_get history p.0 ≡ Some p.1) (λ (p : ℕ × Ran). p.0 < length history) (seat z) (λ p e. get_below history p.0 p.1 e) (h.each z))
+
 place_keeps : (t : Terms) (legal : List Ran → Type 0) (history : List Ran) (seat : ActorId → List (ℕ × Ran)) (spent : ActorId → List ℕ) → ShelfLaw t legal history seat spent → (y : ActorId) (x : Ran) → IsHand t y → length history < t.table_last_call → legal (history ++ x ∷ []) → ShelfLaw t legal (history ++ x ∷ []) (add seat y (length history, x)) spent
 place_keeps t legal history seat spent h y x hand left ok =
     record {
@@ -66,7 +70,7 @@ place_keeps t legal history seat spent h y x hand left ok =
     places_more z = collect-append at_of (seat z) ((length history, x) ∷ [])
 
     below : (z : ActorId) → Each (λ m. m < length history) (places (seat z))
-    below z = each_place (λ m. m < length history) (seat z) (each_more (λ (p : ℕ × Ran). slice_get history p.0 ≡ Some p.1) (λ (p : ℕ × Ran). p.0 < length history) (seat z) (λ p e. get_below history p.0 p.1 e) (h.each z))
+    below z = seats_below t legal history seat spent h z
 
     now : (k : ℕ) → length history ≡ k → (b : Bool) → b ≡ true → Has k (places (if b then seat y ++ (length history, x) ∷ [] else seat y))
     now k e true i = subst (Has k) (sym (places_more y)) (has_right k (places (seat y)) (length history ∷ []) (0, ap (λ (v : ℕ). Some v) e))
