@@ -184,8 +184,8 @@ reads_sum b c (w ∷ ws) a d g =
     (sum_by-append (λ (n : ℕ). n) (w ∷ []) ws ∙ (let i : w ≡ count_of c (slice_index_or b.counts a no_counts) = g.0 in omega (arith, i, r.0)), r.1)
 
 range_more : (g : ℕ → ℕ) (a k m : ℕ) → range g a (k + m) ≡ range g a k + range g (a + k) m
-range_more g a zero m = ap (λ (n : ℕ). range g n m) (let e : a ≡ a + 0 = omega arith in e)
-range_more g a (suc k) m = omega (arith, range_more g (a + 1) k m, ap (λ (n : ℕ). range g n m) (let e : a + 1 + k ≡ a + suc k = omega arith in e))
+range_more g a zero m = ap (λ (k : ℕ). range g a k) (let z : 0 + m ≡ m = omega arith in z) ∙ ap (λ (n : ℕ). range g n m) (let e : a ≡ a + 0 = omega arith in e) ∙ (let z : range g (a + 0) m ≡ 0 + range g (a + 0) m = omega arith in z)
+range_more g a (suc k) m = ap (λ (n : ℕ). range g a n) (let z : suc k + m ≡ suc (k + m) = omega arith in z) ∙ omega (arith, range_more g (a + 1) k m, ap (λ (n : ℕ). range g n m) (let e : a + 1 + k ≡ a + suc k = omega arith in e))
 
 range_crew : (g : ℕ → ℕ) (f : ActorId → ℕ) (mk : ℕ → ActorId) (off a k : ℕ) → ((i : ℕ) → a ≤ i → i < a + k → g (off + i) ≡ f (mk i)) → range g (off + a) k ≡ sum_of f (crew mk a k)
 range_crew g f mk off a zero h = refl
@@ -231,10 +231,10 @@ all_busy b d first size from (suc n) g =
       | inr ne ↦ s.1 i (omega (arith, l, ne)) ])
 
 skip_busy : (idle : ActorId → Bool) (mk : ℕ → ActorId) (size from n rest : ℕ) → ((i : ℕ) → i < n → idle (mk ((from + i) % size)) ≡ false) → idle_by idle mk size from (n + rest) ≡ idle_by idle mk size (from + n) rest
-skip_busy idle mk size from zero rest h = ap (λ (k : ℕ). idle_by idle mk size k rest) (let e : from ≡ from + 0 = omega arith in e)
+skip_busy idle mk size from zero rest h = ap (λ (n : ℕ). idle_by idle mk size from n) (let z : 0 + rest ≡ rest = omega arith in z) ∙ ap (λ (k : ℕ). idle_by idle mk size k rest) (let e : from ≡ from + 0 = omega arith in e)
 skip_busy idle mk size from (suc n) rest h =
     let busy : idle (mk (from % size)) ≡ false = ap (λ (k : ℕ). idle (mk (k % size))) (let e : from ≡ from + 0 = omega arith in e) ∙ h 0 (omega arith) in
-    ap (λ (x : Bool). if x then Some (from % size) else idle_by idle mk size (from + 1) (n + rest)) busy
+    ap (λ (k : ℕ). idle_by idle mk size from k) (let z : suc n + rest ≡ suc (n + rest) = omega arith in z) ∙ ap (λ (x : Bool). if x then Some (from % size) else idle_by idle mk size (from + 1) (n + rest)) busy
     ∙ skip_busy idle mk size (from + 1) n rest (λ i l. ap (λ (k : ℕ). idle (mk (k % size))) (let e : from + 1 + i ≡ from + suc i = omega arith in e) ∙ h (suc i) (omega (arith, l)))
     ∙ ap (λ (k : ℕ). idle_by idle mk size k rest) (let e : from + 1 + n ≡ from + suc n = omega arith in e)
 

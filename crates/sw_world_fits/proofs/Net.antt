@@ -1,5 +1,6 @@
 -- Accepts of the net in memory are the ports' answers, and leave what the ports leave.
-use Rattle.std.proofs.Common.{◌≡◌, ℕ, Bool, true, false, if◌then◌else◌, List, [], ◌∷◌, ◌++◌, refl, ap, ◌∙◌, sym, subst, Option, None}
+use Rattle.std.proofs.Common.{◌≡◌, ℕ, ◌+◌, min, Bool, true, false, if◌then◌else◌, List, [], ◌∷◌, ◌++◌, refl, ap, ◌∙◌, sym, subst, Option, None}
+use Rattle.sw_causes.specs.Causes.{most}
 use Rattle.sw_link.specs.declared.net.Accept.{Accept}
 use Rattle.sw_link.specs.declared.net.Accept.TheVariants.{Got, NotYet, End, Failed}
 use Rattle.sw_link.specs.declared.memory_link.MemoryLink.{MemoryLink}
@@ -19,8 +20,9 @@ by_links m [] waiting ended i a e n = pick m.ends e
 
 pub accept_fits : (n : Plan) (waiting : List ℕ) (ended : Bool) → NetStands n waiting ended → (a : Accept MemoryLink) (m : Plan) → AcceptsBy n a m → AcceptIs waiting ended a × NetStands m (waits_then waiting a) ended
 accept_fits n waiting ended st a m by =
+    let failed : Accepted = record { answer = Failed; net = record (counted_accept n) { faults = min (n.faults + 1) most } } in
     let never : is_number n.accepts n.fail_at ≡ false = ap (is_number n.accepts) st.whole in
-    let same : memory_accept n ≡ accept_next (counted_accept n) n.links = ap (λ (b : Bool). if b then _ else accept_next (counted_accept n) n.links) never in
+    let same : memory_accept n ≡ accept_next (counted_accept n) n.links = ap (λ (b : Bool). if b then failed else accept_next (counted_accept n) n.links) never in
     let r : Fits waiting ended (memory_accept n) = subst (Fits waiting ended) (sym same) (by_links (counted_accept n) n.links waiting ended refl st.links st.ends st.whole) in
     subst (λ (x : Accept MemoryLink). AcceptIs waiting ended x × NetStands m (waits_then waiting x) ended) (sym by.0) (r.0, subst (λ (x : Plan). NetStands x (waits_then waiting (memory_accept n).answer) ended) (sym by.1) r.1)
 

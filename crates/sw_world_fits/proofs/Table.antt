@@ -146,7 +146,7 @@ placed_fits t shape y p ports st legal call q row new placed is = (
   (at ∙ st.calls, (omega (arith, free.1, st.calls, st.last)), subst (Legal shape) (sym (entries_more ports.table (ran_of p call placed.reply))) (legal_more shape map.empty (entries ports.table) entry legal (ap (λ (cs : List Column). call_fault cs call) shape_columns ∙ free.0) (reply ∙ step_reply) step_cells)),
   subst (λ (x : PlainTable). TableStands t shape x (ports.table ++ ran_of p call placed.reply ∷ [])) (sym is.2)
       (record {
-         shape = st.shape;
+         same = st.same;
          columns = st.columns;
          rows = step_state ∙ sym (ap (λ (es : List Entry). after shape es) (entries_more ports.table (ran_of p call placed.reply)) ∙ left_more shape map.empty (entries ports.table) entry);
          calls = omega (arith, st.calls, length_append ports.table (ran_of p call placed.reply ∷ []));
@@ -165,16 +165,16 @@ placed_fits t shape y p ports st legal call q row new placed is = (
     reply = ap (λ (x : Placed). x.reply) is.1
 
     shape_columns : shape.columns ≡ p.columns
-    shape_columns = sym (ap (λ (s : Shape). s.columns) st.shape)
+    shape_columns = sym (ap (λ (s : Shape). s.columns) st.same)
 
     free : (call_fault p.columns call ≡ None) × (p.calls < p.last_call)
     free = fine p.calls p.last_call (call_fault p.columns call) st.within is.0
 
     step_reply : (TStep (shape_of p) p.state call).reply ≡ (TStep shape (after shape (entries ports.table)) call).reply
-    step_reply = ap (λ (s : Shape). (TStep s p.state call).reply) st.shape ∙ ap (λ (r : State). (TStep shape r call).reply) st.rows
+    step_reply = ap (λ (s : Shape). (TStep s p.state call).reply) st.same ∙ ap (λ (r : State). (TStep shape r call).reply) st.rows
 
     step_cells : (TStep (shape_of p) p.state call).cells ≡ (TStep shape (after shape (entries ports.table)) call).cells
-    step_cells = ap (λ (s : Shape). (TStep s p.state call).cells) st.shape ∙ ap (λ (r : State). (TStep shape r call).cells) st.rows
+    step_cells = ap (λ (s : Shape). (TStep s p.state call).cells) st.same ∙ ap (λ (r : State). (TStep shape r call).cells) st.rows
 
     step_state : (TStep (shape_of p) p.state call).state ≡ (TStep shape (after shape (entries ports.table)) call).state
-    step_state = ap (λ (s : Shape). (TStep s p.state call).state) st.shape ∙ ap (λ (r : State). (TStep shape r call).state) st.rows
+    step_state = ap (λ (s : Shape). (TStep s p.state call).state) st.same ∙ ap (λ (r : State). (TStep shape r call).state) st.rows

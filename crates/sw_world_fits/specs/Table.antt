@@ -10,7 +10,7 @@ use Rattle.sw_join.specs.Legal.{entries}
 
 -- a plain Table of this shape behind these calls
 pub record TableStands (t : Terms) (shape : Shape) (p : PlainTable) (history : List Ran) : Type 0 where
-  pub shape : shape_of p ≡ shape
+  pub same : shape_of p ≡ shape
   pub columns : p.columns ≡ t.columns
   pub rows : p.state ≡ after shape (entries history)
   pub calls : p.calls ≡ length history

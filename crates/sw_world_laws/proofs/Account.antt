@@ -30,7 +30,7 @@ use Rattle.sw_world_laws.specs.World.{Core}
 use Rattle.sw_world_laws.specs.History.{History, past_of}
 use Rattle.sw_world_laws.specs.Law.{Holds}
 use Rattle.sw_world_laws.specs.Account.{is_session, link_in, untouched, coming, refusal, link_or, link_by, links_by, waits, account_of, account}
-use Rattle.sw_world_laws.proofs.Locals.{shown, locals, joint, door_shown}
+use Rattle.sw_world_laws.proofs.Locals.{locals, joint, door_shown}
 use Rattle.sw_world_laws.proofs.Turns.{more_of}
 
 -- a session's link among a reactor's

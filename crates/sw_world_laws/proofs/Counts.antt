@@ -20,8 +20,8 @@ use Rattle.sw_join.specs.Modes.{AimOf, EndOf}
 use Rattle.sw_world_ports.specs.Calls.{Did, Accepts, NoLink, NetOver, Looks, Binds, Frees, Marks, Idles, Stops, SeesStop, Adds, Sums, Tables, MayDo, MayAdd, IsReactor, TableRefuses}
 use Rattle.sw_world_ports.specs.Made.{add_in, sum_in, free_in, accept_in, firsts}
 use Rattle.sw_world_ports.specs.Ports.{sum_of, everyone}
+use Rattle.sw_world_ports.specs.Law.{drawn_by}
 use Rattle.sw_world_ports.proofs.Haves.{each_has}
-use Rattle.sw_world_ports.proofs.Calls.{drawn_by}
 use Rattle.sw_world_ports.proofs.Counters.{counter_other}
 use Rattle.sw_world_laws.specs.Shows.{HandShows, DoorShows}
 use Rattle.sw_world_laws.specs.Actors.{Actors}

@@ -24,8 +24,8 @@ use Rattle.sw_world_ports.proofs.Frame.{frame}
 use Rattle.sw_world_ports.proofs.Haves.{has_left, has_right, has_split, Place, AtLast, Before, place_of}
 use Rattle.sw_world_ports.proofs.Shelf.{seats_below}
 use Rattle.sw_world_laws.specs.Actors.{Actors, Grows, IsSettled}
-use Rattle.sw_world_laws.specs.World.{Core, there}
-use Rattle.sw_world_laws.specs.History.{History, diary_of}
+use Rattle.sw_world_laws.specs.World.{Core}
+use Rattle.sw_world_laws.specs.History.{History}
 use Rattle.sw_world_laws.specs.Marks.{posted_count, made_count, IsMark, TaskMarks, FinishMarks}
 use Rattle.sw_world_laws.specs.Law.{Holds}
 use Rattle.sw_world_laws.proofs.Locals.{shown, task_locals, hand_law, there_hand}
@@ -125,14 +125,11 @@ finish_marks_take t legal p c h l was y e w k lw lk id bytes early rest = pick (
 -- a task that was taken is among those that were pushed
 has_of : (f : Message → List ℕ) (y : ActorId) (n : ℕ) (ms : Mail) → Has n (collect f (of y ms)) → Has n (collect f (bare ms))
 has_of f y n [] h = h
-has_of f y n (e ∷ ms) h = pick (is e.0 y) h
+has_of f y n (e ∷ ms) h = pick (is e.0 y) (λ k. has_of f y n ms k) h
   where
-    split : Has n (f e.1 ++ collect f (of y ms)) → Has n (f e.1 ++ collect f (bare ms))
-    split k = elim (has_split n (f e.1) (collect f (of y ms)) k) [ inl i ↦ has_left n (f e.1) (collect f (bare ms)) i | inr i ↦ has_right n (f e.1) (collect f (bare ms)) (has_of f y n ms i) ]
-
-    pick : (b : Bool) → Has n (collect f (when b e.1 ++ of y ms)) → Has n (f e.1 ++ collect f (bare ms))
-    pick true k = split k
-    pick false k = has_right n (f e.1) (collect f (bare ms)) (has_of f y n ms k)
+    pick : (b : Bool) → (Has n (collect f (of y ms)) → Has n (collect f (bare ms))) → Has n (collect f (when b e.1 ++ of y ms)) → Has n (f e.1 ++ collect f (bare ms))
+    pick true r k = elim (has_split n (f e.1) (collect f (of y ms)) k) [ inl i ↦ has_left n (f e.1) (collect f (bare ms)) i | inr i ↦ has_right n (f e.1) (collect f (bare ms)) (r i) ]
+    pick false r k = has_right n (f e.1) (collect f (bare ms)) (r k)
 
 counting_less : (n m : ℕ) (ns : List ℕ) → IsCounting n ns → Has m ns → m < n + length ns
 counting_less n m [] c h = absurd (let q = h.1 in cc)
@@ -151,7 +148,8 @@ task_sent t legal p c h l was w k lw id bytes early rest e =
     let taken : Has id (collect (task_id w) (of (Worker w) (h.took (Tasker k)))) = subst (λ (ms : List Message). Has id (collect (task_id w) ms)) (sym same) here in
     let q = prefix_collect (task_id w) (of (Worker w) (h.took (Tasker k))) (of (Tasker k) (h.pushed (Worker w))) pipe in
     let sent : Has id (collect (task_id w) (of (Tasker k) (h.pushed (Worker w)))) = subst (Has id) q.1 (has_left id (collect (task_id w) (of (Worker w) (h.took (Tasker k)))) q.0 taken) in
-    counting_less 0 id (collect (task_id w) (bare (h.pushed (Worker w)))) ((task_locals t legal p c h l was).worker w lw).counting (has_of (task_id w) (Tasker k) id (h.pushed (Worker w)) sent)
+    let less : id < 0 + length (collect (task_id w) (bare (h.pushed (Worker w)))) = counting_less 0 id (collect (task_id w) (bare (h.pushed (Worker w)))) ((task_locals t legal p c h l was).worker w lw).counting (has_of (task_id w) (Tasker k) id (h.pushed (Worker w)) sent) in
+    omega (arith, less)
   where
     own : (b : Bool) → b ≡ true → Has id (numbers (when b (id, bytes) ++ []) ++ collect (task_id w) (of (Worker w) rest))
     own true q = (0, refl)

@@ -7,7 +7,7 @@ use Rattle.sw_record.specs.Words.{Log}
 use Rattle.sw_record.specs.Terms.{Terms}
 use Rattle.sw_world_ports.specs.Calls.{Did, MayDo}
 use Rattle.sw_world_laws.specs.Turns.{Ask, AskTake, AskPush, AskNothing, AskRest, AskFinished, Got, GotStart, Diary, no_diary, with_dids, After}
-use Rattle.sw_world_laws.specs.Shows.{Tells, Shows, LostShows}
+use Rattle.sw_world_laws.specs.Shows.{Shows, LostShows}
 use Rattle.sw_world_laws.specs.Done.{DoneShows}
 use Rattle.sw_world_laws.specs.Actors.{Grows, Feed, Actors}
 

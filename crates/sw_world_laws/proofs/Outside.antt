@@ -17,7 +17,7 @@ use Rattle.sw_world_laws.specs.Actors.{Actors}
 use Rattle.sw_world_laws.specs.World.{Core}
 use Rattle.sw_world_laws.specs.History.{History, past_of}
 use Rattle.sw_world_laws.specs.Law.{Holds}
-use Rattle.sw_world_laws.specs.Account.{untouched, coming, refusal, link_by, links_by, waits, tells_by, end_told, fault_told, none_told, outside_of, outside}
+use Rattle.sw_world_laws.specs.Account.{untouched, refusal, link_by, links_by, waits, tells_by, end_told, fault_told, none_told, outside_of, outside}
 use Rattle.sw_world_laws.proofs.Turns.{more_of}
 use Rattle.sw_world_laws.proofs.Account.{Shape, Kept, Coming, NoneFull, NoneSpent, shape, account_by}
 

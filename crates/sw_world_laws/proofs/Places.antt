@@ -12,7 +12,7 @@ use Rattle.sw_record.specs.Answers.{answers_after, answers_of}
 use Rattle.sw_record.specs.Dialogue.{MayAnswer, MayFollow, Dialogue, DialogueAfter}
 use Rattle.sw_record.specs.Places.{Ran, place_in, placed, at_of, places}
 use Rattle.sw_record.specs.AfterSeen.{told_place, place_of, told_places}
-use Rattle.sw_world_ports.specs.Calls.{Did, Accepts, NoLink, NetOver, Looks, Binds, Granted, ZeroUid, Had, NotThere, Frees, Marks, Idles, Stops, SeesStop, Adds, Sums, Tables, TableRefuses}
+use Rattle.sw_world_ports.specs.Calls.{Did, Accepts, NoLink, NetOver, Looks, Binds, Frees, Marks, Idles, Stops, SeesStop, Adds, Sums, Tables, TableRefuses}
 use Rattle.sw_world_ports.specs.Made.{seat_in}
 use Rattle.sw_world_ports.specs.Ports.{Ports, AllAnswer, ported, all_ported}
 

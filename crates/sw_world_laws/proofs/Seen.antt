@@ -2,7 +2,7 @@
 use Rattle.std.proofs.Common.{◌≡◌, ◌⊎◌, ℕ, ◌+◌, ◌<◌, ◌≤◌, Bool, true, false, if◌then◌else◌, ◌==◌, List, [], ◌∷◌, ◌++◌, length, refl, ap, ◌∙◌, sym, subst, append-nil, append_assoc, arith, inl, inr, zero, suc, slice_get, Some}
 use Rattle.sw_lists.specs.Lists.{collect, when, IsPrefix, Each, Has}
 use Rattle.sw_lists.specs.Numbers.{IsCounting}
-use Rattle.sw_lists.proofs.Lists.{eq_same, collect-append, collect-collect, collect-same, append_none, each_left, each_right, length_append}
+use Rattle.sw_lists.proofs.Lists.{eq_same, collect-append, collect-collect, collect-same, append_none, prefix_length, each_left, each_right, length_append}
 use Rattle.sw_step.specs.declared.actor.ActorId.{ActorId}
 use Rattle.sw_step.specs.declared.actor.ActorId.TheVariants.{Door, Reactor, Worker, Tasker}
 use Rattle.sw_record.specs.Words.{Event, Connect, Packet, Closed, Finish, Task, Act, Send, Close, Reset, Bind, Exist, Info, TaskAct, FinishAct, Table, Stats, Shutdown, Done, Dst, Answer, Sent, Asked, BindOk, Exists, InfoIs, Posted, Finished, TableIs, TableRefused, Count, NoSession, Bound, BadUid, WrongMode, TaskFull, BadTarget, NoTaskWorkers, IdsSpent, NotHere, NoTable, Given, EventGiven, AnswerGiven, Log}
@@ -106,9 +106,6 @@ told_behind : (n : ℕ) (before since front : Log) (e : Event) (act : Act) (rest
 told_behind n before since front e act rest q le h =
     let r = ends_before before since front e act rest q le in
     each_right (λ m. n ≤ m) (told_places r.0) (told_places rest) (subst (Each (λ m. n ≤ m)) (ap told_places r.1 ∙ collect-append place_told r.0 ((EventGiven e, act) ∷ rest)) h)
-
-prefix_short : {A : Type 0} (xs ys : List A) → IsPrefix xs ys → length xs ≤ length ys
-prefix_short xs ys p = omega (arith, length_append xs p.0, ap (λ (v : List A). length v) p.1)
 
 -- one list begins the other
 pub data Meets {A : Type 0} (xs more ys zs : List A) : Type 0 where
@@ -267,7 +264,7 @@ seen_task t legal p c h l ok w k lw lk id bytes act front rest before behind giv
     let m = l.task_marks w k lw lk id bytes at.early at.rest (at.split ∙ ap (λ (v : ActorId). at.early ++ (v, EventMsg (Task w id bytes)) ∷ at.rest) who) in
     let counting : IsCounting 0 (collect posted_in (p.log (c.states (Worker w)))) = ((task_locals t legal p c h l ok).worker w lw).posted in
     (m.mark, (told_before (length c.ports.table) posted_count id (p.log (c.states (Worker w))) (p.log (c.states (Tasker k))) (collect (heard_in (Tasker k)) (bare at.early)) m (λ xs ys. posted_grows Done xs ys) before behind given (TaskAct q.dst q.bytes) q.split (posted_few (p.log (c.states (Worker w))) id before behind given counting q),
-      told_behind m.mark m.before m.since front (Task w id bytes) act rest (sym m.taken ∙ e) (let le : length (events_of m.before) ≤ length (collect (heard_in (Tasker k)) (bare at.early)) = prefix_short (events_of m.before) (collect (heard_in (Tasker k)) (bare at.early)) m.told in omega (arith, ap (λ (v : List Event). length v) at.heard)) m.above))
+      told_behind m.mark m.before m.since front (Task w id bytes) act rest (sym m.taken ∙ e) (let le : length (events_of m.before) ≤ length (collect (heard_in (Tasker k)) (bare at.early)) = prefix_length (events_of m.before) (collect (heard_in (Tasker k)) (bare at.early)) m.told in omega (arith, ap (λ (v : List Event). length v) at.heard)) m.above))
 
 seen_finish : (t : Terms) (legal : List Ran → Type 0) (p : Actors t) (c : Core p.State) (h : History) → Holds t legal p c h → c.lost ≡ false → (w k : ℕ) → w < t.worker_num → k < t.tasker_num → (id : ℕ) (bytes : List ℕ) (act : Act) (front rest before behind : Log) (given : Given) → p.log (c.states (Worker w)) ≡ front ++ (EventGiven (Finish id bytes), act) ∷ rest → Has id (numbers (tasks_of w (p.log (c.states (Tasker k))))) → IsMadeAt w (p.log (c.states (Tasker k))) (length (only (numbers (tasks_of w (p.log (c.states (Tasker k))))) (finishes_of front))) before behind given → IsMarked (told_places (before ++ (given, Done) ∷ [])) (told_places rest)
 seen_finish t legal p c h l ok w k lw lk id bytes act front rest before behind given e has q =
@@ -284,7 +281,7 @@ seen_finish t legal p c h l ok w k lw lk id bytes act front rest before behind g
     let number : length (only ids (finishes_of front)) ≡ length (collect finish_in (of (Tasker k) at.early)) = ap (λ (v : List (ℕ × List ℕ)). length (only ids v)) given_back ∙ ap (λ (v : List (ℕ × List ℕ)). length v) share in
     let few : made_count w (before ++ (given, FinishAct q.bytes) ∷ []) ≤ length (only ids (finishes_of front)) = made_few w (p.log (c.states (Tasker k))) (length (only ids (finishes_of front))) before behind given q in
     (m.mark, (told_before (length c.ports.table) (made_count w) (length (collect finish_in (of (Tasker k) at.early))) (p.log (c.states (Tasker k))) (p.log (c.states (Worker w))) (collect (heard_in (Worker w)) (bare at.early)) m (λ xs ys. given_grows w [] Done xs ys) before behind given (FinishAct q.bytes) q.split (omega (arith, few, number)),
-      told_behind m.mark m.before m.since front (Finish id bytes) act rest (sym m.taken ∙ e) (let le : length (events_of m.before) ≤ length (collect (heard_in (Worker w)) (bare at.early)) = prefix_short (events_of m.before) (collect (heard_in (Worker w)) (bare at.early)) m.told in omega (arith, ap (λ (v : List Event). length v) at.heard)) m.above))
+      told_behind m.mark m.before m.since front (Finish id bytes) act rest (sym m.taken ∙ e) (let le : length (events_of m.before) ≤ length (collect (heard_in (Worker w)) (bare at.early)) = prefix_length (events_of m.before) (collect (heard_in (Worker w)) (bare at.early)) m.told in omega (arith, ap (λ (v : List Event). length v) at.heard)) m.above))
 
 pub seen_laws : (t : Terms) (legal : List Ran → Type 0) (p : Actors t) (c : Core p.State) (h : History) → Holds t legal p c h → c.lost ≡ false → SeenLaws t (past_of t p c h)
 seen_laws t legal p c h l ok =

@@ -23,9 +23,10 @@ use Rattle.sw_record.specs.Dialogue.{Dialogue}
 use Rattle.sw_world_ports.specs.Calls.{Did, Accepts, NoLink, NetOver, Looks, Binds, Frees, Marks, Idles, Stops, SeesStop, Adds, Sums, Tables, MayDo, TableRefuses}
 use Rattle.sw_world_ports.specs.Made.{free_in, firsts, first_of, seat_in}
 use Rattle.sw_world_ports.specs.Ports.{set_at, all_ported, AllAnswer}
+use Rattle.sw_world_ports.specs.Law.{MayFree, add_all, drawn_by}
 use Rattle.sw_world_ports.proofs.Frame.{frame}
 use Rattle.sw_world_ports.proofs.Haves.{each_has}
-use Rattle.sw_world_ports.proofs.Calls.{MayFree, add_all, drawn_by, calls_keep}
+use Rattle.sw_world_ports.proofs.Calls.{calls_keep}
 use Rattle.sw_world_laws.specs.Turns.{Got, with_dids}
 use Rattle.sw_world_laws.specs.Shows.{ReactorMore, Tells}
 use Rattle.sw_world_laws.specs.Actors.{Actors, Grows, Feed}

@@ -14,7 +14,7 @@ use Rattle.sw_record.specs.Places.{Ran}
 use Rattle.sw_world_ports.specs.Calls.{Did, Accepts, NoLink, NetOver, Looks, Binds, Frees, Marks, Idles, Stops, SeesStop, Adds, Sums, Tables, MayDo, TableRefuses}
 use Rattle.sw_world_ports.specs.Ports.{Ports, add, Answers, AllAnswer, ported, all_ported}
 use Rattle.sw_world_ports.specs.Made.{accept_in, free_in, firsts, first_of}
-use Rattle.sw_world_ports.specs.Law.{IsFreed, all_in, PortsLaw}
+use Rattle.sw_world_ports.specs.Law.{IsFreed, all_in, PortsLaw, MayFree, drawn_by, add_all}
 use Rattle.sw_world_ports.proofs.Haves.{has_left}
 use Rattle.sw_world_ports.proofs.Words.{CanFree, given_keeps, call_keeps}
 use Rattle.sw_world_ports.proofs.Board.{stop_keeps, counts_keep}
@@ -29,15 +29,6 @@ one_call t legal p dids h y d may ans can =
       counts = counts_keep t legal p dids h.counts y d may ans;
       shelf = shelf_keeps t legal p dids h.shelf y d may ans;
     }
-
-abbrev pub drawn_by : (ActorId → List Did) → List ℕ
-drawn_by dids = collect drew_in (collect accept_in (dids Door))
-
--- what a turn releases was drawn, no other reactor released it, and nor did this one
-pub record MayFree (t : Terms) (dids : ActorId → List Did) (y : ActorId) (mine ds : List Did) : Type 0 where
-  pub once : ¬ (collect free_in ds ≡ []) → Distinct (firsts (collect free_in (mine ++ ds)))
-  pub drawn : Each (λ s. Has s (drawn_by dids)) (firsts (collect free_in ds))
-  pub alone : Each (λ s. (m : ℕ) → m < t.reactor_num → ¬ (Reactor m ≡ y) → ¬ Has s (firsts (collect free_in (dids (Reactor m))))) (firsts (collect free_in ds))
 
 abbrev pub all_added : (ActorId → List Did) → ActorId → List Did → ActorId → List Did
 all_added dids y [] = dids
@@ -102,10 +93,6 @@ many_calls : (t : Terms) (legal : List Ran → Type 0) (p : Ports) (dids : Actor
 many_calls t legal p dids h y mine e [] may ans f = h
 many_calls t legal p dids h y mine e (d ∷ ds) may ans f =
     many_calls t legal (ported t p y d) (add dids y d) (one_call t legal p dids h y d may.0 ans.0 (can_free t legal p dids h y mine e d ds f)) y (mine ++ d ∷ []) (added_own dids y mine d e) ds may.1 ans.1 (then_free t dids y mine d ds f)
-
--- one actor's list has more
-abbrev pub add_all : (ActorId → List Did) → ActorId → List Did → ActorId → List Did
-add_all dids y ds z = if is z y then dids z ++ ds else dids z
 
 added_all : (dids : ActorId → List Did) (y : ActorId) (ds : List Did) (z : ActorId) → all_added dids y ds z ≡ add_all dids y ds z
 added_all dids y [] z = pick (is z y)

@@ -1,7 +1,8 @@
 -- What the plain ports keep, by all calls so far.
-use Rattle.std.specs.Prelude.{◌≡◌, ◌⊎◌, ℕ, ◌<◌, ◌≤◌, ◌%◌, Bool, true, List, [], ◌∷◌, ◌++◌, length, slice_get, Some}
+use Rattle.std.specs.Prelude.{◌≡◌, ◌⊎◌, ℕ, ◌<◌, ◌≤◌, ◌%◌, Bool, true, List, [], ◌∷◌, ◌++◌, length, slice_get, Some, if◌then◌else◌}
 use Rattle.sw_lists.specs.Lists.{collect, Each, Has}
-use Rattle.sw_lists.specs.Numbers.{Rises}
+use Rattle.sw_lists.specs.Numbers.{Rises, Distinct}
+use Rattle.sw_step.specs.Actors.{is}
 use Rattle.sw_step.specs.declared.actor.ActorId.{ActorId}
 use Rattle.sw_step.specs.declared.actor.ActorId.TheVariants.{Door, Reactor}
 use Rattle.sw_record.specs.Terms.{Terms}
@@ -110,3 +111,17 @@ pub record PortsLaw (t : Terms) (legal : List Ran → Type 0) (p : Ports) (dids 
   pub stop : StopLaw t p.stop dids
   pub counts : CountsLaw t p.counts dids
   pub shelf : ShelfLaw t legal p.table (all_in seat_in dids) (all_in spent_in dids)
+
+-- the sessions that the door drew
+abbrev pub drawn_by : (ActorId → List Did) → List ℕ
+drawn_by dids = collect drew_in (collect accept_in (dids Door))
+
+-- what a turn releases was drawn, no other reactor released it, and nor did this one
+pub record MayFree (t : Terms) (dids : ActorId → List Did) (y : ActorId) (mine ds : List Did) : Type 0 where
+  pub once : ¬ (collect free_in ds ≡ []) → Distinct (firsts (collect free_in (mine ++ ds)))
+  pub drawn : Each (λ s. Has s (drawn_by dids)) (firsts (collect free_in ds))
+  pub alone : Each (λ s. (m : ℕ) → m < t.reactor_num → ¬ (Reactor m ≡ y) → ¬ Has s (firsts (collect free_in (dids (Reactor m))))) (firsts (collect free_in ds))
+
+-- one actor's list has all of these more
+abbrev pub add_all : (ActorId → List Did) → ActorId → List Did → ActorId → List Did
+add_all dids y ds z = if is z y then dids z ++ ds else dids z
