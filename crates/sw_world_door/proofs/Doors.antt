@@ -21,7 +21,6 @@ use Rattle.sw_world_laws.specs.Shows.{DoorShows, fresh_pair, drew_pair, Tells}
 use Rattle.sw_world_laws.specs.Done.{DoorDone}
 use Rattle.sw_world_door.specs.Doors.{DoorState, DoorGoes, Reads, NotYet, NetEnds, Draws, Refuses, Finishes, DoorTurn, says, IsLinkTo, DoorHolds, DoorQuiet, DoorDoneLaw}
 
-
 pairs_more : (d ds : List Did) → collect drew_pair (collect accept_in (d ++ ds)) ≡ collect drew_pair (collect accept_in d) ++ collect drew_pair (collect accept_in ds)
 pairs_more d ds = ap (collect drew_pair) (collect-append accept_in d ds) ∙ collect-append drew_pair (collect accept_in d) (collect accept_in ds)
 
@@ -35,7 +34,7 @@ counted_more a b h k =
     let one_adds : length (collect (add_in EndedCount) (a ++ b)) ≡ length (collect (add_in EndedCount) a) + length (collect (add_in EndedCount) b) = ap (λ (xs : List ℕ). length xs) (collect-append (add_in EndedCount) a b) ∙ length_append (collect (add_in EndedCount) a) (collect (add_in EndedCount) b) in
     let accepts : length (collect accept_in (a ++ b)) ≡ length (collect accept_in a) + length (collect accept_in b) = ap (λ (xs : List (ℕ × Claim)). length xs) (collect-append accept_in a b) ∙ length_append (collect accept_in a) (collect accept_in b) in
     let drawns : length (collect drew_in (collect accept_in (a ++ b))) ≡ length (collect drew_in (collect accept_in a)) + length (collect drew_in (collect accept_in b)) =
-        ap (λ (xs : List (ℕ × Claim)). length (collect drew_in xs)) (collect-append accept_in a b) ∙ ap (λ (xs : List ℕ). length xs) (collect-append drew_in (collect accept_in a) (collect accept_in b)) ∙ length_append (collect drew_in (collect accept_in a)) (collect drew_in (collect accept_in b)) in
+    ap (λ (xs : List (ℕ × Claim)). length (collect drew_in xs)) (collect-append accept_in a b) ∙ ap (λ (xs : List ℕ). length xs) (collect-append drew_in (collect accept_in a) (collect accept_in b)) ∙ length_append (collect drew_in (collect accept_in a)) (collect drew_in (collect accept_in b)) in
     let h0 : length (collect (add_in AcceptedCount) a) ≤ length (collect accept_in a) = h.0 in
     let h1 : length (collect (add_in EndedCount) a) + length (collect drew_in (collect accept_in a)) ≤ length (collect accept_in a) = h.1 in
     let k0 : length (collect (add_in AcceptedCount) b) ≤ length (collect accept_in b) = k.0 in
@@ -65,7 +64,7 @@ pushes : (t : Terms) (u : DoorState) (to : ActorId) (m : Message) (d : Diary) �
 pushes t u to m d e h = (
   record { links = h.links; split = append-nil (d.pushed ++ (to, m) ∷ []) ∙ h.split; only = h.only; early = h.early; few = h.few; drawn = h.drawn; stops = h.stops; accepted = h.accepted; refused = h.refused },
   (let k : DoorHolds t u d ((u.to, m) ∷ []) = subst (λ (z : ActorId). DoorHolds t u d ((z, m) ∷ [])) (sym e) h in
-    record { links = k.links; split = k.split; only = k.only; early = k.early; few = k.few; drawn = k.drawn; stops = k.stops; accepted = k.accepted; refused = k.refused }),
+      record { links = k.links; split = k.split; only = k.only; early = k.early; few = k.few; drawn = k.drawn; stops = k.stops; accepted = k.accepted; refused = k.refused }),
 )
 
 goes : (t : Terms) (s : DoorState) (dids : List Did) (u : DoorState) (ask : Ask) (d : Diary) → DoorHolds t s d [] → DoorGoes t s dids u ask → After (DoorQuiet t) (DoorDoneLaw t) u ask (record { took = d.took; pushed = d.pushed; refused = d.refused; dids = d.dids ++ dids })
@@ -76,13 +75,13 @@ goes t s dids u ask d h (Reads b e a i j q) = by dids u ask i j q
         (still t s v d xs h (ap (λ (x : DoorState). x.given) j) (λ z. h.early e) (ap (λ (x : List Did). collect drew_pair (collect accept_in x)) i) (ap (λ (x : List Did). collect stop_in x) i) (subst Counted (sym i) ((omega arith), (omega arith))))
 goes t s dids u ask d h (NotYet e a i j q) =
     subst (λ (x : Ask). After (DoorQuiet t) (DoorDoneLaw t) u x (record { took = d.took; pushed = d.pushed; refused = d.refused; dids = d.dids ++ dids })) (sym q)
-        (still t s u d dids h (ap (λ (x : DoorState). x.given) j) (λ z. h.early e) (ap (λ (x : List Did). collect drew_pair (collect accept_in x)) i) (ap (λ (x : List Did). collect stop_in x) i) (subst Counted (sym i) ((omega arith), (omega arith))))
+    (still t s u d dids h (ap (λ (x : DoorState). x.given) j) (λ z. h.early e) (ap (λ (x : List Did). collect drew_pair (collect accept_in x)) i) (ap (λ (x : List Did). collect stop_in x) i) (subst Counted (sym i) ((omega arith), (omega arith))))
 goes t s dids u ask d h (NetEnds e a i j q) =
     subst (λ (x : Ask). After (DoorQuiet t) (DoorDoneLaw t) u x (record { took = d.took; pushed = d.pushed; refused = d.refused; dids = d.dids ++ dids })) (sym q)
-        (still t s u d dids h (ap (λ (x : DoorState). x.given) j) (λ z. h.early e) (ap (λ (x : List Did). collect drew_pair (collect accept_in x)) i) (ap (λ (x : List Did). collect stop_in x) i) (subst Counted (sym i) ((omega arith), (omega arith))))
+    (still t s u d dids h (ap (λ (x : DoorState). x.given) j) (λ z. h.early e) (ap (λ (x : List Did). collect drew_pair (collect accept_in x)) i) (ap (λ (x : List Did). collect stop_in x) i) (subst Counted (sym i) ((omega arith), (omega arith))))
 goes t s dids u ask d h (Refuses ip c none e a i j q) =
     subst (λ (x : Ask). After (DoorQuiet t) (DoorDoneLaw t) u x (record { took = d.took; pushed = d.pushed; refused = d.refused; dids = d.dids ++ dids })) (sym q)
-        (still t s u d dids h (ap (λ (x : DoorState). x.given) j) (λ z. h.early e) (ap (λ (x : List Did). collect drew_pair (collect accept_in x)) i ∙ ap (λ (x : List (ℕ × ℕ)). x ++ []) (unpaired ip c none)) (ap (λ (x : List Did). collect stop_in x) i) (subst Counted (sym i) ((omega arith), (let z : length (drew c ++ []) ≡ 0 = ap (λ (xs : List ℕ). length (xs ++ [])) none in omega arith))))
+    (still t s u d dids h (ap (λ (x : DoorState). x.given) j) (λ z. h.early e) (ap (λ (x : List Did). collect drew_pair (collect accept_in x)) i ∙ ap (λ (x : List (ℕ × ℕ)). x ++ []) (unpaired ip c none)) (ap (λ (x : List Did). collect stop_in x) i) (subst Counted (sym i) ((omega arith), (let z : length (drew c ++ []) ≡ 0 = ap (λ (xs : List ℕ). length (xs ++ [])) none in omega arith))))
   where
     unpaired : (n : ℕ) (x : Claim) → drew x ≡ [] → drew_pair (n, x) ≡ []
     unpaired n (Drew k) z = absurd (cc)
@@ -93,49 +92,50 @@ goes t s dids u ask d h (Draws ip n e a i j q) =
     let g : u.given ≡ 0 = ap (λ (x : DoorState). x.given) j ∙ zero_given in
     let all : d.pushed ≡ h.links = sym (append-nil d.pushed) ∙ h.split ∙ ap (λ k. h.links ++ says k) zero_given ∙ append-nil h.links in
     subst (λ (x : Ask). After (DoorQuiet t) (DoorDoneLaw t) u x (record { took = d.took; pushed = d.pushed; refused = d.refused; dids = d.dids ++ dids })) (sym q)
-        (pushes t u (Reactor (reactor_of t n)) (FreshMsg ip n) (record { took = d.took; pushed = d.pushed; refused = d.refused; dids = d.dids ++ dids }) (ap (λ (x : DoorState). x.to) j)
-            (record {
-               links = h.links ++ (Reactor (reactor_of t n), FreshMsg ip n) ∷ [];
-               split = ap (λ (ms : Mail). ms ++ (Reactor (reactor_of t n), FreshMsg ip n) ∷ []) all ∙ sym (append-nil (h.links ++ (Reactor (reactor_of t n), FreshMsg ip n) ∷ [])) ∙ ap (λ k. (h.links ++ (Reactor (reactor_of t n), FreshMsg ip n) ∷ []) ++ says k) (sym g);
-               only = each_append (IsLinkTo t) h.links ((Reactor (reactor_of t n), FreshMsg ip n) ∷ []) h.only (refl, tt);
-               early = λ z. g;
-               few = omega (arith, g);
-               drawn = ap (collect fresh_pair) (collect-append msg_of h.links ((Reactor (reactor_of t n), FreshMsg ip n) ∷ [])) ∙ collect-append fresh_pair (bare h.links) (FreshMsg ip n ∷ []) ∙ ap (λ (xs : List (ℕ × ℕ)). xs ++ (ip, n) ∷ []) h.drawn
-                   ∙ sym (pairs_more d.dids dids ∙ ap (λ (x : List Did). collect drew_pair (collect accept_in d.dids) ++ collect drew_pair (collect accept_in x)) i);
-               stops = collect-append stop_in d.dids dids ∙ ap (λ (xs : List ℕ). xs ++ collect stop_in dids) h.stops ∙ ap (λ (x : List Did). collect stop_in x) i;
-               accepted = (counted_more d.dids dids (h.accepted, h.refused) (subst Counted (sym i) ((omega arith), (omega arith)))).0;
-               refused = (counted_more d.dids dids (h.accepted, h.refused) (subst Counted (sym i) ((omega arith), (omega arith)))).1;
-             }))
+    (pushes t u (Reactor (reactor_of t n)) (FreshMsg ip n) (record { took = d.took; pushed = d.pushed; refused = d.refused; dids = d.dids ++ dids }) (ap (λ (x : DoorState). x.to) j)
+    (record {
+      links = h.links ++ (Reactor (reactor_of t n), FreshMsg ip n) ∷ [];
+      split = ap (λ (ms : Mail). ms ++ (Reactor (reactor_of t n), FreshMsg ip n) ∷ []) all ∙ sym (append-nil (h.links ++ (Reactor (reactor_of t n), FreshMsg ip n) ∷ [])) ∙ ap (λ k. (h.links ++ (Reactor (reactor_of t n), FreshMsg ip n) ∷ []) ++ says k) (sym g);
+      only = each_append (IsLinkTo t) h.links ((Reactor (reactor_of t n), FreshMsg ip n) ∷ []) h.only (refl, tt);
+      early = λ z. g;
+      few = omega (arith, g);
+      drawn = ap (collect fresh_pair) (collect-append msg_of h.links ((Reactor (reactor_of t n), FreshMsg ip n) ∷ [])) ∙ collect-append fresh_pair (bare h.links) (FreshMsg ip n ∷ []) ∙ ap (λ (xs : List (ℕ × ℕ)). xs ++ (ip, n) ∷ []) h.drawn
+          ∙ sym (pairs_more d.dids dids ∙ ap (λ (x : List Did). collect drew_pair (collect accept_in d.dids) ++ collect drew_pair (collect accept_in x)) i);
+      stops = collect-append stop_in d.dids dids ∙ ap (λ (xs : List ℕ). xs ++ collect stop_in dids) h.stops ∙ ap (λ (x : List Did). collect stop_in x) i;
+      accepted = (counted_more d.dids dids (h.accepted, h.refused) (subst Counted (sym i) ((omega arith), (omega arith)))).0;
+      refused = (counted_more d.dids dids (h.accepted, h.refused) (subst Counted (sym i) ((omega arith), (omega arith)))).1;
+    }))
 goes t s dids u ask d h (Tells e lt i j q) =
     let g : u.given ≡ s.given + 1 = ap (λ (x : DoorState). x.given) j in
     let same : d.dids ++ dids ≡ d.dids = ap (λ (x : List Did). d.dids ++ x) i ∙ append-nil d.dids in
     subst (λ (x : Ask). After (DoorQuiet t) (DoorDoneLaw t) u x (record { took = d.took; pushed = d.pushed; refused = d.refused; dids = d.dids ++ dids })) (sym q)
-        (pushes t u (Reactor s.given) NoMore (record { took = d.took; pushed = d.pushed; refused = d.refused; dids = d.dids ++ dids }) (ap (λ (x : DoorState). x.to) j)
-            (record {
-               links = h.links;
-               split = ap (λ (ms : Mail). ms ++ (Reactor s.given, NoMore) ∷ []) (sym (append-nil d.pushed) ∙ h.split) ∙ append_assoc h.links (says s.given) ((Reactor s.given, NoMore) ∷ []) ∙ ap (λ (ms : Mail). h.links ++ ms) (more s.given) ∙ ap (λ k. h.links ++ says k) (sym g);
-               only = h.only;
-               early = λ z. absurd (let v : true ≡ false = sym e ∙ ap (λ (x : DoorState). x.ending) (sym j) ∙ z in cc);
-               few = omega (arith, g);
-               drawn = h.drawn ∙ ap (λ (x : List Did). collect drew_pair (collect accept_in x)) (sym same);
-               stops = ap (λ (x : List Did). collect stop_in x) same ∙ h.stops;
-               accepted = (subst Counted (sym same) (h.accepted, h.refused)).0;
-               refused = (subst Counted (sym same) (h.accepted, h.refused)).1;
-             }))
+    (pushes t u (Reactor s.given) NoMore (record { took = d.took; pushed = d.pushed; refused = d.refused; dids = d.dids ++ dids }) (ap (λ (x : DoorState). x.to) j)
+    (record {
+      links = h.links;
+      split = ap (λ (ms : Mail). ms ++ (Reactor s.given, NoMore) ∷ []) (sym (append-nil d.pushed) ∙ h.split) ∙ append_assoc h.links (says s.given) ((Reactor s.given, NoMore) ∷ []) ∙ ap (λ (ms : Mail). h.links ++ ms) (more s.given) ∙ ap (λ k. h.links ++ says k) (sym g);
+      only = h.only;
+      early = λ z. absurd (let v : true ≡ false = sym e ∙ ap (λ (x : DoorState). x.ending) (sym j) ∙ z in cc);
+      few = omega (arith, g);
+      drawn = h.drawn ∙ ap (λ (x : List Did). collect drew_pair (collect accept_in x)) (sym same);
+      stops = ap (λ (x : List Did). collect stop_in x) same ∙ h.stops;
+      accepted = (subst Counted (sym same) (h.accepted, h.refused)).0;
+      refused = (subst Counted (sym same) (h.accepted, h.refused)).1;
+    }))
   where
     more : (k : ℕ) → says k ++ (Reactor k, NoMore) ∷ [] ≡ says (k + 1)
     more k = let z : suc k ≡ k + 1 = omega arith in ap says z
 goes t s dids u ask d h (Finishes e ge i j q) =
-    subst (λ (x : Ask). After (DoorQuiet t) (DoorDoneLaw t) u x (record { took = d.took; pushed = d.pushed; refused = d.refused; dids = d.dids ++ dids })) (sym q)
-        (still t s u d dids h (ap (λ (x : DoorState). x.given) j) (λ z. absurd (let v : true ≡ false = sym e ∙ ap (λ (x : DoorState). x.ending) (sym j) ∙ z in cc)) (ap (λ (x : List Did). collect drew_pair (collect accept_in x)) i) (ap (λ (x : List Did). collect stop_in x) i) (subst Counted (sym i) nothing_counted),
-          λ lt. ge (subst (λ (x : DoorState). x.given < t.reactor_num) j lt))
+    subst (λ (x : Ask). After (DoorQuiet t) (DoorDoneLaw t) u x (record { took = d.took; pushed = d.pushed; refused = d.refused; dids = d.dids ++ dids })) (sym q) (
+      still t s u d dids h (ap (λ (x : DoorState). x.given) j) (λ z. absurd (let v : true ≡ false = sym e ∙ ap (λ (x : DoorState). x.ending) (sym j) ∙ z in cc)) (ap (λ (x : List Did). collect drew_pair (collect accept_in x)) i) (ap (λ (x : List Did). collect stop_in x) i) (subst Counted (sym i) nothing_counted),
+      λ lt. ge (subst (λ (x : DoorState). x.given < t.reactor_num) j lt),
+    )
 
 pub door_keeps : (t : Terms) (s : DoorState) (got : Got) (dids : List Did) (u : DoorState) (ask : Ask) (d : Diary) → DoorTurn t s got dids u ask → DoorQuiet t s got d → After (DoorQuiet t) (DoorDoneLaw t) u ask (record { took = d.took; pushed = d.pushed; refused = d.refused; dids = d.dids ++ dids })
 door_keeps t s (GotFull m) dids u ask d g h =
     subst (λ (x : Ask). After (DoorQuiet t) (DoorDoneLaw t) u x (record { took = d.took; pushed = d.pushed; refused = d.refused; dids = d.dids ++ dids })) (sym g.1.1)
-        (subst (λ (v : DoorState). After (DoorQuiet t) (DoorDoneLaw t) v (AskPush s.to m) (record { took = d.took; pushed = d.pushed; refused = d.refused; dids = d.dids ++ dids })) (sym g.1.0)
-            (subst (λ (x : List Did). After (DoorQuiet t) (DoorDoneLaw t) s (AskPush s.to m) (record { took = d.took; pushed = d.pushed; refused = d.refused; dids = x })) (sym (ap (λ (x : List Did). d.dids ++ x) g.0 ∙ append-nil d.dids))
-                (pushes t s s.to m d refl h)))
+    (subst (λ (v : DoorState). After (DoorQuiet t) (DoorDoneLaw t) v (AskPush s.to m) (record { took = d.took; pushed = d.pushed; refused = d.refused; dids = d.dids ++ dids })) (sym g.1.0)
+    (subst (λ (x : List Did). After (DoorQuiet t) (DoorDoneLaw t) s (AskPush s.to m) (record { took = d.took; pushed = d.pushed; refused = d.refused; dids = x })) (sym (ap (λ (x : List Did). d.dids ++ x) g.0 ∙ append-nil d.dids))
+    (pushes t s s.to m d refl h)))
 door_keeps t s GotStart dids u ask d g h = goes t s dids u ask d h g
 door_keeps t s (GotTook m) dids u ask d g h = goes t s dids u ask d h g
 door_keeps t s GotEmpty dids u ask d g h = goes t s dids u ask d h g
@@ -199,9 +199,10 @@ says_none n (suc k) le = says_to (Reactor n) k ∙ ap (λ (ms : List Message). m
 
 says_one : (n k : ℕ) → n < k → of (Reactor n) (says k) ≡ NoMore ∷ []
 says_one n zero lt = absurd (omega arith)
-says_one n (suc k) lt = says_to (Reactor n) k ∙ elim (equal_or_not k n)
-  [ inl e ↦ ap (λ (ms : List Message). ms ++ when (k == n) NoMore) (says_none n k (omega arith)) ∙ ap (λ b. when b NoMore) (eq_same k n e)
-  | inr ne ↦ ap (λ (ms : List Message). ms ++ when (k == n) NoMore) (says_one n k (omega arith)) ∙ ap (λ b. NoMore ∷ when b NoMore) (eq_other k n ne) ]
+says_one n (suc k) lt = says_to (Reactor n) k ∙ elim (equal_or_not k n) [
+  | inl e ↦ ap (λ (ms : List Message). ms ++ when (k == n) NoMore) (says_none n k (omega arith)) ∙ ap (λ b. when b NoMore) (eq_same k n e)
+  | inr ne ↦ ap (λ (ms : List Message). ms ++ when (k == n) NoMore) (says_one n k (omega arith)) ∙ ap (λ b. NoMore ∷ when b NoMore) (eq_other k n ne)
+]
 
 says_few : (x : ActorId) (k : ℕ) → length (collect no_more (of x (says k))) ≤ 1
 says_few Door k = omega (arith, ap (λ (ms : List Message). length (collect no_more ms)) (no_door k))
@@ -219,9 +220,10 @@ says_few (Tasker w) k = omega (arith, ap (λ (ms : List Message). length (collec
     no_tasker : (j : ℕ) → of (Tasker w) (says j) ≡ []
     no_tasker zero = refl
     no_tasker (suc j) = says_to (Tasker w) j ∙ ap (λ (ms : List Message). ms ++ []) (no_tasker j)
-says_few (Reactor n) k = elim (cases_lt n k)
-  [ inl lt ↦ omega (arith, ap (λ (ms : List Message). length (collect no_more ms)) (says_one n k lt))
-  | inr ge ↦ omega (arith, ap (λ (ms : List Message). length (collect no_more ms)) (says_none n k ge)) ]
+says_few (Reactor n) k = elim (cases_lt n k) [
+  | inl lt ↦ omega (arith, ap (λ (ms : List Message). length (collect no_more ms)) (says_one n k lt))
+  | inr ge ↦ omega (arith, ap (λ (ms : List Message). length (collect no_more ms)) (says_none n k ge))
+]
 
 last_marked : (f : Message → List ℕ) (ms : List Message) (m : Message) → ¬ (f m ≡ []) → LastMarked f (ms ++ m ∷ [])
 last_marked f [] m n = n
@@ -232,8 +234,8 @@ pub door_done : (t : Terms) (s : DoorState) (d : Diary) → DoorDoneLaw t s d �
 door_done t s d (h, ge) = (
   (λ x. subst (λ (ms : Mail). length (collect no_more (of x ms)) ≤ 1) (sym all)
       (let a : length (collect no_more (of x (says s.given))) ≤ 1 = says_few x s.given in
-        let b : collect no_more (of x (h.links ++ says s.given)) ≡ collect no_more (of x (says s.given)) = ap (collect no_more) (collect-append (with x) h.links (says s.given)) ∙ collect-append no_more (of x h.links) (of x (says s.given)) ∙ ap (λ (ns : List ℕ). ns ++ collect no_more (of x (says s.given))) (links_quiet t x h.links h.only) in
-        subst (λ (ns : List ℕ). length ns ≤ 1) (sym b) a)),
+      let b : collect no_more (of x (h.links ++ says s.given)) ≡ collect no_more (of x (says s.given)) = ap (collect no_more) (collect-append (with x) h.links (says s.given)) ∙ collect-append no_more (of x h.links) (of x (says s.given)) ∙ ap (λ (ns : List ℕ). ns ++ collect no_more (of x (says s.given))) (links_quiet t x h.links h.only) in
+      subst (λ (ns : List ℕ). length ns ≤ 1) (sym b) a)),
   record {
     fresh = ap (λ (ms : Mail). collect fresh_pair (bare ms)) all ∙ ap (collect fresh_pair) (collect-append msg_of h.links (says s.given)) ∙ collect-append fresh_pair (bare h.links) (bare (says s.given)) ∙ ap (λ (xs : List (ℕ × ℕ)). collect fresh_pair (bare h.links) ++ xs) (says_fresh s.given) ∙ append-nil (collect fresh_pair (bare h.links)) ∙ h.drawn;
     last = λ n lt. subst (LastMarked no_more) (sym (ap (of (Reactor n)) all ∙ collect-append (with (Reactor n)) h.links (says s.given) ∙ ap (λ (ms : List Message). of (Reactor n) h.links ++ ms) (says_one n s.given (omega (arith, ge))))) (last_marked no_more (of (Reactor n) h.links) NoMore (λ e. absurd (cc)));

@@ -74,7 +74,7 @@ silent t y =
 pub rest_keeps : (y : ActorId) (s : Resting) (got : Got) (feed : Feed) (dids : List Did) (u : Resting) (ask : Ask) (d : Diary) → RestTurn y s got feed dids u ask → RestQuiet y s got d → After (RestQuiet y) (RestDone y) u ask (with_dids d dids)
 rest_keeps y s got feed dids u ask d turn quiet =
     subst (λ (x : Ask). After (RestQuiet y) (RestDone y) u x (with_dids d dids)) (sym turn.1)
-        (ap (λ (x : Diary). with_dids x dids) quiet ∙ ap (λ (x : List Did). with_dids no_diary x) turn.0)
+    (ap (λ (x : Diary). with_dids x dids) quiet ∙ ap (λ (x : List Did). with_dids no_diary x) turn.0)
 
 -- whatever it asks, its law says that it did nothing so far
 quiet_after : (y : ActorId) (s : Resting) (ask : Ask) (d : Diary) → After (RestQuiet y) (RestDone y) s ask d → d ≡ no_diary

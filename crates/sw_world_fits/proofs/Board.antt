@@ -129,7 +129,7 @@ capped_same n = pick (nat_lt n greatest) refl
 pub add_fits : (t : Terms) (b d : PlainWords) (p : Ports) (y : ActorId) (c : Counter) → BoardStands t b p → IsThere t y → b.turn ≡ number_of t y → ((k : Counter) (z : ActorId) → p.counts k z ≤ greatest) → PlainGoes b (Added c ∷ []) d → BoardStands t d (ported t p y (Adds c))
 add_fits t b d p y c st there turn fits g =
     subst (λ (w : PlainWords). BoardStands t w (ported t p y (Adds c))) (sym g.1)
-        (record { workers = st.workers; taskers = st.taskers; actors = st.actors; marks = st.marks; words = length-set b.counts b.turn (counted c (slice_index_or b.counts b.turn no_counts)) ∙ st.words; stopped = st.stopped; worker = st.worker; tasker = st.tasker; counts = λ k z l. one k z l (is z y) refl (same_counter k c) refl })
+    (record { workers = st.workers; taskers = st.taskers; actors = st.actors; marks = st.marks; words = length-set b.counts b.turn (counted c (slice_index_or b.counts b.turn no_counts)) ∙ st.words; stopped = st.stopped; worker = st.worker; tasker = st.tasker; counts = λ k z l. one k z l (is z y) refl (same_counter k c) refl })
   where
     new : Counts
     new = counted c (slice_index_or b.counts b.turn no_counts)
@@ -163,7 +163,7 @@ add_fits t b d p y c st there turn fits g =
 pub mark_fits : (t : Terms) (b d : PlainWords) (p : Ports) (y : ActorId) (idle : Bool) → BoardStands t b p → IsThere t y → b.turn ≡ number_of t y → PlainGoes b (Marked idle ∷ []) d → BoardStands t d (ported t p y (Marks idle))
 mark_fits t b d p y idle st there turn g =
     subst (λ (w : PlainWords). BoardStands t w (ported t p y (Marks idle))) (sym g.1)
-        (record { workers = st.workers; taskers = st.taskers; actors = st.actors; marks = length-set b.idle b.turn idle ∙ st.marks; words = st.words; stopped = st.stopped; worker = λ k l. one (Worker k) k l refl (omega (arith, l)) (st.worker k l) (is (Worker k) y) refl; tasker = λ k l. one (Tasker k) (t.worker_num + k) l refl (omega (arith, l)) (st.tasker k l) (is (Tasker k) y) refl; counts = st.counts })
+    (record { workers = st.workers; taskers = st.taskers; actors = st.actors; marks = length-set b.idle b.turn idle ∙ st.marks; words = st.words; stopped = st.stopped; worker = λ k l. one (Worker k) k l refl (omega (arith, l)) (st.worker k l) (is (Worker k) y) refl; tasker = λ k l. one (Tasker k) (t.worker_num + k) l refl (omega (arith, l)) (st.tasker k l) (is (Tasker k) y) refl; counts = st.counts })
   where
     one : (z : ActorId) (n : ℕ) → IsThere t z → number_of t z ≡ n → n < t.worker_num + t.tasker_num → slice_index_or b.idle n false ≡ p.idle z → (x : Bool) → is z y ≡ x → slice_index_or (slice_set b.idle b.turn idle) n false ≡ (if x then idle else p.idle z)
     one z n l same less old true e =
@@ -212,8 +212,23 @@ sum_fits t legal b d p y c n st (words, long, is, g) =
     let reactors : range q (w + k + 0) m ≡ sum_of f (crew Reactor 0 m) = range_crew q f Reactor (w + k) 0 m (λ i l u. st.counts c (Reactor i) (omega (arith, u))) in
     let door : q (w + k + m) ≡ f Door = st.counts c Door tt in
     let total : sum words ≡ sum_of f (everyone t) =
-        omega (arith, all, a, e, h, workers, taskers, reactors, door, ap (λ (v : ℕ). range q v w) (let z : 0 + 0 ≡ 0 = omega arith in z), ap (λ (v : ℕ). range q v k) (let z : w + 0 ≡ 0 + w = omega arith in z), ap (λ (v : ℕ). range q v m) (let z : w + k + 0 ≡ 0 + (w + k) = omega arith in z), ap q (let z : 0 + (w + k + m) ≡ w + k + m = omega arith in z),
-            sum_join f (crew Reactor 0 m) (hands t), sum_join f (crew Worker 0 w) (crew Tasker 0 k)) in
+    omega (
+      arith,
+      all,
+      a,
+      e,
+      h,
+      workers,
+      taskers,
+      reactors,
+      door,
+      ap (λ (v : ℕ). range q v w) (let z : 0 + 0 ≡ 0 = omega arith in z),
+      ap (λ (v : ℕ). range q v k) (let z : w + 0 ≡ 0 + w = omega arith in z),
+      ap (λ (v : ℕ). range q v m) (let z : w + k + 0 ≡ 0 + (w + k) = omega arith in z),
+      ap q (let z : 0 + (w + k + m) ≡ w + k + m = omega arith in z),
+      sum_join f (crew Reactor 0 m) (hands t),
+      sum_join f (crew Worker 0 w) (crew Tasker 0 k),
+    ) in
     (is ∙ ap capped_min total ∙ capped_same (sum_of f (everyone t)), subst (λ (v : PlainWords). BoardStands t v p) (sym r.1) st)
 
 -- the first idle member of a crew
@@ -225,10 +240,13 @@ all_busy : (b d : PlainWords) (first size from n : ℕ) → PlainGoes b (found_b
 all_busy b d first size from zero g = (g, λ i l. absurd (omega arith))
 all_busy b d first size from (suc n) g =
     let r = goes_both b d (found_busy first size from n) (Found (first + (from + n) % size) false ∷ []) g in
-    let s = all_busy b r.0 first size from n r.1.0 in
-    (r.1.1.1 ∙ s.0, λ i l. elim (equal_or_not i n)
-      [ inl e ↦ subst (λ (k : ℕ). slice_index_or b.idle (first + (from + k) % size) false ≡ false) (sym e) (sym (r.1.1.0 ∙ ap (λ (v : PlainWords). slice_index_or v.idle (first + (from + n) % size) false) s.0))
-      | inr ne ↦ s.1 i (omega (arith, l, ne)) ])
+    let s = all_busy b r.0 first size from n r.1.0 in (
+      r.1.1.1 ∙ s.0,
+      λ i l. elim (equal_or_not i n) [
+        | inl e ↦ subst (λ (k : ℕ). slice_index_or b.idle (first + (from + k) % size) false ≡ false) (sym e) (sym (r.1.1.0 ∙ ap (λ (v : PlainWords). slice_index_or v.idle (first + (from + n) % size) false) s.0))
+        | inr ne ↦ s.1 i (omega (arith, l, ne))
+      ],
+    )
 
 skip_busy : (idle : ActorId → Bool) (mk : ℕ → ActorId) (size from n rest : ℕ) → ((i : ℕ) → i < n → idle (mk ((from + i) % size)) ≡ false) → idle_by idle mk size from (n + rest) ≡ idle_by idle mk size (from + n) rest
 skip_busy idle mk size from zero rest h = ap (λ (n : ℕ). idle_by idle mk size from n) (let z : 0 + rest ≡ rest = omega arith in z) ∙ ap (λ (k : ℕ). idle_by idle mk size k rest) (let e : from ≡ from + 0 = omega arith in e)
@@ -262,7 +280,7 @@ crew_fits b d idle mk first size from (Some m) some same less (n, l, is, g) =
     by : (rest : ℕ) → size ≡ n + suc rest → ((i : ℕ) → i < n → slice_index_or b.idle (first + (from + i) % size) false ≡ false) → idle (mk ((from + n) % size)) ≡ true → m ≡ (from + n) % size → idle_by idle mk size from size ≡ Some m
     by rest e busy hit is =
         subst (λ (k : ℕ). idle_by idle mk size from k ≡ Some m) (sym e)
-            (skip_busy idle mk size from n (suc rest) (λ i l. sym (same ((from + i) % size) (less (from + i))) ∙ busy i l) ∙ found_now idle mk size (from + n) rest hit ∙ ap (λ (k : ℕ). Some k) (sym is))
+        (skip_busy idle mk size from n (suc rest) (λ i l. sym (same ((from + i) % size) (less (from + i))) ∙ busy i l) ∙ found_now idle mk size (from + n) rest hit ∙ ap (λ (k : ℕ). Some k) (sym is))
 
 pub idle_fits : (t : Terms) (legal : List Ran → Type 0) (b d : PlainWords) (p : Ports) (y : ActorId) (which : Crew) (from : ℕ) (x : Option ℕ) → BoardStands t b p → from < members which b.sizes → FindsIdle PlainGoes b.sizes which from b x d → Answers t legal p y (Idles (of_taskers which) from x) × BoardStands t d (ported t p y (Idles (of_taskers which) from x))
 idle_fits t legal b d p y Workers from x st less g =

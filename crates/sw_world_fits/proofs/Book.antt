@@ -105,6 +105,6 @@ tries t words (suc k) b some st = by (tries t words k (drawn b) some (record { s
 pub claim_fits : (t : Terms) (b : Words) (p : Ports) → BookStands t b p → 1 ≤ t.max_conn → (y : ActorId) (ip : ℕ) → ((claimed t p).0 ≡ claim_of (plain_claim b).answer) × BookStands t (plain_claim b).words (ported t p y (Accepts ip (claim_of (plain_claim b).answer)))
 claim_fits t b p st some y ip =
     let r : Tries t p.words (claim_by t.max_conn p.words t.max_conn p.last) (plain_claim b) =
-        subst (λ (k : ℕ). Tries t p.words (claim_by t.max_conn p.words t.max_conn p.last) (claim_in k b)) (sym st.slots.size) (subst (λ (k : ℕ). Tries t p.words (claim_by t.max_conn p.words t.max_conn k) (claim_in t.max_conn b)) st.last (tries t p.words t.max_conn b some st.slots)) in
+    subst (λ (k : ℕ). Tries t p.words (claim_by t.max_conn p.words t.max_conn p.last) (claim_in k b)) (sym st.slots.size) (subst (λ (k : ℕ). Tries t p.words (claim_by t.max_conn p.words t.max_conn k) (claim_in t.max_conn b)) st.last (tries t p.words t.max_conn b some st.slots)) in
     let same : (claimed t p).0 ≡ claim_of (plain_claim b).answer = ap (λ (x : Claim × ℕ). x.0) r.0 in
     (same, record { slots = subst (λ (x : Claim). SlotsStand t (plain_claim b).words (words_by t.max_conn p.words x)) same r.1; last = sym (ap (λ (x : Claim × ℕ). x.1) r.0) })

@@ -146,13 +146,13 @@ placed_fits t shape y p ports st legal call q row new placed is = (
   (at ∙ st.calls, (omega (arith, free.1, st.calls, st.last)), subst (Legal shape) (sym (entries_more ports.table (ran_of p call placed.reply))) (legal_more shape map.empty (entries ports.table) entry legal (ap (λ (cs : List Column). call_fault cs call) shape_columns ∙ free.0) (reply ∙ step_reply) step_cells)),
   subst (λ (x : PlainTable). TableStands t shape x (ports.table ++ ran_of p call placed.reply ∷ [])) (sym is.2)
       (record {
-         same = st.same;
-         columns = st.columns;
-         rows = step_state ∙ sym (ap (λ (es : List Entry). after shape es) (entries_more ports.table (ran_of p call placed.reply)) ∙ left_more shape map.empty (entries ports.table) entry);
-         calls = omega (arith, st.calls, length_append ports.table (ran_of p call placed.reply ∷ []));
-         last = st.last;
-         within = omega (arith, free.1);
-       }),
+        same = st.same;
+        columns = st.columns;
+        rows = step_state ∙ sym (ap (λ (es : List Entry). after shape es) (entries_more ports.table (ran_of p call placed.reply)) ∙ left_more shape map.empty (entries ports.table) entry);
+        calls = omega (arith, st.calls, length_append ports.table (ran_of p call placed.reply ∷ []));
+        last = st.last;
+        within = omega (arith, free.1);
+      }),
 )
   where
     entry : Entry

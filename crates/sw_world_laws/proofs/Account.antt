@@ -61,9 +61,10 @@ found s (l ∷ ls) = pick (is_session s (session_of l.state)) refl (found s ls)
 -- an item of what was collected is an item of one
 pub has_collect : {A B : Type 0} (f : A → List B) (xs : List A) (b : B) → Has b (collect f xs) → (a : A) × (Has a xs × Has b (f a))
 has_collect f [] b h = absurd (let q = h.1 in cc)
-has_collect f (x ∷ xs) b h = elim (has_split b (f x) (collect f xs) h)
-  [ inl k ↦ (x, ((0, refl), k))
-  | inr k ↦ (let r = has_collect f xs b k in (r.0, ((suc r.1.0.0, r.1.0.1), r.1.1))) ]
+has_collect f (x ∷ xs) b h = elim (has_split b (f x) (collect f xs) h) [
+  | inl k ↦ (x, ((0, refl), k))
+  | inr k ↦ (let r = has_collect f xs b k in (r.0, ((suc r.1.0.0, r.1.0.1), r.1.1)))
+]
 
 pub collect_has : {A B : Type 0} (f : A → List B) (xs : List A) (a : A) (b : B) → Has a xs → Has b (f a) → Has b (collect f xs)
 collect_has f [] a b (k, q) h = absurd (cc)
@@ -91,15 +92,14 @@ one_ip ((ip, Drew u) ∷ xs) r i j s (suc m, p) (suc n, q) = one_ip xs r.1 i j s
 one_ip ((ip, Drew u) ∷ xs) r i j s (zero, p) (suc n, q) = absurd (let e : (ip, u) ≡ (i, s) = cc in later u s xs r.0 j (ap (λ (x : ℕ × ℕ). x.1) e) (n, q))
 one_ip ((ip, Drew u) ∷ xs) r i j s (suc m, p) (zero, q) = absurd (let e : (ip, u) ≡ (j, s) = cc in later u s xs r.0 i (ap (λ (x : ℕ × ℕ). x.1) e) (m, p))
 
-
 -- the address of a kept link is the one that the door accepted
 pub kept_pair : (t : Terms) (legal : List Ran → Type 0) (p : Actors t) (c : Core p.State) (h : History) → Holds t legal p c h → (n : ℕ) → n < t.reactor_num → (s : ℕ) (l : LinkRecord) → Has l (p.kept (c.states (Reactor n))) → session_of l.state ≡ Some s → Has (l.ip, s) (collect drew_pair (collect accept_in (h.dids Door)))
 kept_pair t legal p c h k n lt s l has e =
     let past : Past = past_of t p c h in
     let kept = (shows t (AimOf t) (EndOf t) past (locals t legal p c h k) (joint t legal p c h k) n lt).keeps s l has e in
     let here : Has (l.ip, s) (collect fresh_pair (of Door (kept.early ++ (Door, FreshMsg l.ip s) ∷ (kept.mid ++ kept.later)))) =
-        subst (λ (ms : List (ℕ × ℕ)). Has (l.ip, s) ms) (sym (ap (collect fresh_pair) (collect-append (with Door) kept.early ((Door, FreshMsg l.ip s) ∷ (kept.mid ++ kept.later))) ∙ collect-append fresh_pair (of Door kept.early) (FreshMsg l.ip s ∷ of Door (kept.mid ++ kept.later))))
-            (has_right (l.ip, s) (collect fresh_pair (of Door kept.early)) ((l.ip, s) ∷ collect fresh_pair (of Door (kept.mid ++ kept.later))) (0, refl)) in
+    subst (λ (ms : List (ℕ × ℕ)). Has (l.ip, s) ms) (sym (ap (collect fresh_pair) (collect-append (with Door) kept.early ((Door, FreshMsg l.ip s) ∷ (kept.mid ++ kept.later))) ∙ collect-append fresh_pair (of Door kept.early) (FreshMsg l.ip s ∷ of Door (kept.mid ++ kept.later))))
+    (has_right (l.ip, s) (collect fresh_pair (of Door kept.early)) ((l.ip, s) ∷ collect fresh_pair (of Door (kept.mid ++ kept.later))) (0, refl)) in
     let took : Has (l.ip, s) (collect fresh_pair (of Door (h.took (Reactor n)))) = subst (λ (ms : Mail). Has (l.ip, s) (collect fresh_pair (of Door ms))) (sym kept.split) here in
     let pipe : IsPrefix (of Door (h.took (Reactor n))) (of (Reactor n) (h.pushed Door)) = (joint t legal p c h k).pipes (Reactor n) Door in
     let pushed : Has (l.ip, s) (collect fresh_pair (of (Reactor n) (h.pushed Door))) = has_prefix (l.ip, s) (collect fresh_pair (of Door (h.took (Reactor n)))) (collect fresh_pair (of (Reactor n) (h.pushed Door))) (prefix_collect fresh_pair (of Door (h.took (Reactor n))) (of (Reactor n) (h.pushed Door)) pipe) took in
@@ -167,11 +167,11 @@ shape_link t h ip x l (Kept u k lt has e i f) s q =
 shape_link t h ip x l (Coming u none) s q =
     let same : u ≡ s = (let v : Some u ≡ Some s = q in cc) in
     inr (record {
-       written = refl;
-       unkept = subst (λ (w : ℕ). (k : LinkRecord) → Has k (h.kept (reactor_of t w)) → session_of k.state ≡ Some w → ⊥) same none;
-       unbound = λ e i. (let v : coming t ip u ≡ e = cc in ap (λ (y : Ended). y.uid) (sym v));
-       lives = λ e i. absurd (cc);
-     })
+      written = refl;
+      unkept = subst (λ (w : ℕ). (k : LinkRecord) → Has k (h.kept (reactor_of t w)) → session_of k.state ≡ Some w → ⊥) same none;
+      unbound = λ e i. (let v : coming t ip u ≡ e = cc in ap (λ (y : Ended). y.uid) (sym v));
+      lives = λ e i. absurd (cc);
+    })
 shape_link t h ip x l NoneFull s q = absurd (cc)
 shape_link t h ip x l NoneSpent s q = absurd (cc)
 
@@ -223,9 +223,10 @@ is_shown t legal p c h some l =
     accepts = collect accept_in (h.dids Door)
 
     one : (at : ℕ) (k : LinkRecord) → slice_get (account_by t p c h).links at ≡ Some k → ((x : ℕ × Claim) × Shape t past x.0 x.1 k) ⊎ ((ip : ℕ) × (untouched ip Waiting ≡ k))
-    one at k e = elim (has_split k (collect (links_by t past.kept) accepts) (collect waits c.ports.waiting) (at, e))
-      [ inl q ↦ (let r = has_collect (links_by t past.kept) accepts k q in inl (r.0, subst (λ (y : LinkRecord). Shape t past r.0.0 r.0.1 y) (has_one k (link_by t past.kept r.0.0 r.0.1) r.1.1) (shape t legal p c h some l r.0 r.1.0)))
-      | inr q ↦ (let r = has_collect waits c.ports.waiting k q in inr (r.0, has_one k (untouched r.0 Waiting) r.1.1)) ]
+    one at k e = elim (has_split k (collect (links_by t past.kept) accepts) (collect waits c.ports.waiting) (at, e)) [
+      | inl q ↦ (let r = has_collect (links_by t past.kept) accepts k q in inl (r.0, subst (λ (y : LinkRecord). Shape t past r.0.0 r.0.1 y) (has_one k (link_by t past.kept r.0.0 r.0.1) r.1.1) (shape t legal p c h some l r.0 r.1.0)))
+      | inr q ↦ (let r = has_collect waits c.ports.waiting k q in inr (r.0, has_one k (untouched r.0 Waiting) r.1.1))
+    ]
 
 -- its links are in the order in which the net gave them
 pub net_is : (t : Terms) (legal : List Ran → Type 0) (p : Actors t) (c : Core p.State) (h : History) (some : 1 ≤ t.reactor_num) (l : Holds t legal p c h) → (is_shown t legal p c h some l).net ≡ collect accepted_in (account_by t p c h).links

@@ -136,21 +136,22 @@ firsts_length (p ∷ ps) = ap (λ n. suc n) (firsts_length ps)
 frees_are : (t : Terms) (legal : List Ran → Type 0) (p : Actors t) (c : Core p.State) (h : History) → Holds t legal p c h → (n : ℕ) → n < t.reactor_num → Each (λ s. (reactor_of t s ≡ n) × Has s (drawn_by h.dids)) (frees_of h n)
 frees_are t legal p c h l n lt =
     each_more (λ s. Has s (collect fresh_in (bare (h.took (Reactor n))))) (λ s. (reactor_of t s ≡ n) × Has s (drawn_by h.dids)) (frees_of h n)
-        (λ s has. ((let q : Reactor n ≡ Reactor (reactor_of t s) = fresh_routed t n (h.took (Reactor n)) (fair_took t legal p c h l n).routed s has in let i : n ≡ reactor_of t s = cc in sym i), each_has (λ r. Has r (drawn_by h.dids)) (collect fresh_in (bare (h.took (Reactor n)))) s (took_drawn t legal p c h l n) has))
-        (more_of t legal p c h l n lt).freed_fresh
+    (λ s has. ((let q : Reactor n ≡ Reactor (reactor_of t s) = fresh_routed t n (h.took (Reactor n)) (fair_took t legal p c h l n).routed s has in let i : n ≡ reactor_of t s = cc in sym i), each_has (λ r. Has r (drawn_by h.dids)) (collect fresh_in (bare (h.took (Reactor n)))) s (took_drawn t legal p c h l n) has))
+    (more_of t legal p c h l n lt).freed_fresh
 
 frees_all : (t : Terms) (legal : List Ran → Type 0) (p : Actors t) (c : Core p.State) (h : History) → Holds t legal p c h → (a k : ℕ) → a + k ≤ t.reactor_num → Distinct (all_frees h a k) × Each (λ s. (a ≤ reactor_of t s) × Has s (drawn_by h.dids)) (all_frees h a k)
 frees_all t legal p c h l a zero le = (tt, tt)
 frees_all t legal p c h l a (suc k) le =
     let lt : a < t.reactor_num = omega arith in
     let mine = frees_are t legal p c h l a lt in
-    let rest = frees_all t legal p c h l (a + 1) k (omega arith) in
-    (distinct_append (frees_of h a) (all_frees h (a + 1) k) (more_of t legal p c h l a lt).freed_once rest.0
-        (each_more (λ s. (reactor_of t s ≡ a) × Has s (drawn_by h.dids)) (λ s. Each (λ u. ¬ (s ≡ u)) (all_frees h (a + 1) k)) (frees_of h a)
-            (λ s q. each_more (λ u. (a + 1 ≤ reactor_of t u) × Has u (drawn_by h.dids)) (λ u. ¬ (s ≡ u)) (all_frees h (a + 1) k) (λ u v e. absurd (let i : reactor_of t u ≡ a = ap (λ w. reactor_of t w) (sym e) ∙ q.0 in let j : a + 1 ≤ reactor_of t u = v.0 in omega arith)) rest.1) mine),
+    let rest = frees_all t legal p c h l (a + 1) k (omega arith) in (
+      distinct_append (frees_of h a) (all_frees h (a + 1) k) (more_of t legal p c h l a lt).freed_once rest.0
+          (each_more (λ s. (reactor_of t s ≡ a) × Has s (drawn_by h.dids)) (λ s. Each (λ u. ¬ (s ≡ u)) (all_frees h (a + 1) k)) (frees_of h a)
+          (λ s q. each_more (λ u. (a + 1 ≤ reactor_of t u) × Has u (drawn_by h.dids)) (λ u. ¬ (s ≡ u)) (all_frees h (a + 1) k) (λ u v e. absurd (let i : reactor_of t u ≡ a = ap (λ w. reactor_of t w) (sym e) ∙ q.0 in let j : a + 1 ≤ reactor_of t u = v.0 in omega arith)) rest.1) mine),
       each_append (λ s. (a ≤ reactor_of t s) × Has s (drawn_by h.dids)) (frees_of h a) (all_frees h (a + 1) k)
           (each_more (λ s. (reactor_of t s ≡ a) × Has s (drawn_by h.dids)) (λ s. (a ≤ reactor_of t s) × Has s (drawn_by h.dids)) (frees_of h a) (λ s q. ((let i : reactor_of t s ≡ a = q.0 in omega arith), q.1)) mine)
-          (each_more (λ s. (a + 1 ≤ reactor_of t s) × Has s (drawn_by h.dids)) (λ s. (a ≤ reactor_of t s) × Has s (drawn_by h.dids)) (all_frees h (a + 1) k) (λ s q. ((let i : a + 1 ≤ reactor_of t s = q.0 in omega arith), q.1)) rest.1))
+          (each_more (λ s. (a + 1 ≤ reactor_of t s) × Has s (drawn_by h.dids)) (λ s. (a ≤ reactor_of t s) × Has s (drawn_by h.dids)) (all_frees h (a + 1) k) (λ s q. ((let i : a + 1 ≤ reactor_of t s = q.0 in omega arith), q.1)) rest.1),
+    )
 
 sum_frees : (f : ActorId → ℕ) (h : History) (a k m : ℕ) → a + k ≤ m → ((n : ℕ) → n < m → f (Reactor n) ≤ length (collect free_in (h.dids (Reactor n)))) → sum_of f (crew Reactor a k) ≤ length (all_frees h a k)
 sum_frees f h a zero m le g = omega arith
@@ -184,7 +185,7 @@ count_laws t legal p c h some l ok =
           omega (arith, sum_all t (counts EndedCount)));
       packets = (let a : counts PacketsCount Door ≡ 0 = no_count t legal p c h l PacketsCount Door (λ e. absurd (let q : Door ≡ Reactor e.0 = e.1.1 in cc)) in
           let x : sum_of (counts PacketsCount) (crew Reactor 0 t.reactor_num) ≤ sum_below (λ n. total (p.kept (c.states (Reactor n)))) t.reactor_num = crew_sum (counts PacketsCount) (λ n. total (p.kept (c.states (Reactor n)))) t.reactor_num
-              (λ n lt. (let u : counts PacketsCount (Reactor n) ≤ length (collect (add_in PacketsCount) (h.dids (Reactor n))) = l.ports.counts.own PacketsCount (Reactor n) in let v : length (collect (add_in PacketsCount) (h.dids (Reactor n))) ≤ total (p.kept (c.states (Reactor n))) = (more_of t legal p c h l n lt).packets in omega arith)) in
+          (λ n lt. (let u : counts PacketsCount (Reactor n) ≤ length (collect (add_in PacketsCount) (h.dids (Reactor n))) = l.ports.counts.own PacketsCount (Reactor n) in let v : length (collect (add_in PacketsCount) (h.dids (Reactor n))) ≤ total (p.kept (c.states (Reactor n))) = (more_of t legal p c h l n lt).packets in omega arith)) in
           let z : sum_of (counts PacketsCount) (hands t) ≡ 0 = sum_none (counts PacketsCount) (hands t) (each_more (IsHand t) (λ y. counts PacketsCount y ≡ 0) (hands t) (λ y k. no_count t legal p c h l PacketsCount y (hand_reactor t y k)) (hands_are t)) in
           omega (arith, sum_all t (counts PacketsCount)));
       sends = answered SendsCount (no_hand_door t) (no_hand_reactor t);
@@ -209,7 +210,7 @@ count_laws t legal p c h some l ok =
         let a : c.ports.counts k Door ≡ 0 = no_count t legal p c h l k Door nd in
         let x : sum_of (c.ports.counts k) (crew Reactor 0 t.reactor_num) ≡ 0 = sum_none (c.ports.counts k) (crew Reactor 0 t.reactor_num) (crew_are Reactor (λ y. c.ports.counts k y ≡ 0) 0 t.reactor_num (λ n lt. no_count t legal p c h l k (Reactor n) (nr n))) in
         let z : sum_of (c.ports.counts k) (hands t) ≤ length (collect (λ y. tally k (p.log (c.states y))) (hands t)) =
-            sum_hands (c.ports.counts k) (λ y. tally k (p.log (c.states y))) (hands t)
-                (each_more (IsHand t) (λ y. c.ports.counts k y ≤ length (tally k (p.log (c.states y)))) (hands t)
-                    (λ y i. (let u : c.ports.counts k y ≤ length (collect (add_in k) (h.dids y)) = l.ports.counts.own k y in let v : length (collect (add_in k) (h.dids y)) ≤ length (tally k (p.log (c.states y))) = (hand y i).adds k in omega arith)) (hands_are t)) in
+        sum_hands (c.ports.counts k) (λ y. tally k (p.log (c.states y))) (hands t)
+        (each_more (IsHand t) (λ y. c.ports.counts k y ≤ length (tally k (p.log (c.states y)))) (hands t)
+        (λ y i. (let u : c.ports.counts k y ≤ length (collect (add_in k) (h.dids y)) = l.ports.counts.own k y in let v : length (collect (add_in k) (h.dids y)) ≤ length (tally k (p.log (c.states y))) = (hand y i).adds k in omega arith)) (hands_are t)) in
         omega (arith, sum_all t (c.ports.counts k))

@@ -146,7 +146,7 @@ sent_workers t legal p c h l n = took_may (λ y m. Has y (crew Worker 0 t.worker
 full_workers : (t : Terms) (legal : List Ran → Type 0) (p : Actors t) (c : Core p.State) (h : History) → Holds t legal p c h → (n : ℕ) → length (h.sent (Tasker n)) ≤ length (collect (λ y. of (Tasker n) (h.pushed y)) (crew Worker 0 t.worker_num))
 full_workers t legal p c h l n =
     let a : length (collect one_of (bare (h.sent (Tasker n)))) ≤ sum_over (count one_of (h.sent (Tasker n))) (crew Worker 0 t.worker_num) =
-        over_least one_of (crew Worker 0 t.worker_num) (h.sent (Tasker n)) (each_more (λ (e : ActorId × Message). Has e.0 (crew Worker 0 t.worker_num)) (λ (e : ActorId × Message). (one_of e.1 ≡ []) ⊎ Has e.0 (crew Worker 0 t.worker_num)) (h.sent (Tasker n)) (λ e k. inr k) (sent_workers t legal p c h l n)) in
+    over_least one_of (crew Worker 0 t.worker_num) (h.sent (Tasker n)) (each_more (λ (e : ActorId × Message). Has e.0 (crew Worker 0 t.worker_num)) (λ (e : ActorId × Message). (one_of e.1 ≡ []) ⊎ Has e.0 (crew Worker 0 t.worker_num)) (h.sent (Tasker n)) (λ e k. inr k) (sent_workers t legal p c h l n)) in
     let b : length (collect one_of (bare (h.sent (Tasker n)))) ≡ length (h.sent (Tasker n)) = ones (bare (h.sent (Tasker n))) ∙ bare_length (h.sent (Tasker n)) in
     let d : sum_over (count one_of (h.sent (Tasker n))) (crew Worker 0 t.worker_num) ≡ length (collect (λ y. of (Tasker n) (h.pushed y)) (crew Worker 0 t.worker_num)) = share_lengths h n (crew Worker 0 t.worker_num) (λ y. l.pipes.same (Tasker n) y) in
     omega arith

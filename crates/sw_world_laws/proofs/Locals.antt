@@ -144,10 +144,10 @@ fair_sent t legal p c h l n =
     let k = locals t legal p c h l in
     let past : Past = past_of t p c h in
     let routed : Each (λ (e : ActorId × Message). MayPush t e.0 (Reactor n) e.1) (h.sent (Reactor n)) =
-        took_may (λ y m. MayPush t y (Reactor n) m) (record past { took = h.sent }) (λ x y. subst (IsPrefix (of y (h.sent x))) (sym (l.pipes.same x y)) (prefix_refl (of y (h.sent x)))) (Reactor n)
-            (λ y. each_more (ToReactor t n y) (λ (e : ActorId × Message). e.0 ≡ Reactor n → MayPush t y (Reactor n) e.1) (h.pushed y) (λ e q i. subst (λ (x : ActorId). MayPush t y x e.1) i (q i)) (all_to_reactor t (AimOf t) (EndOf t) past k n y)) in
+    took_may (λ y m. MayPush t y (Reactor n) m) (record past { took = h.sent }) (λ x y. subst (IsPrefix (of y (h.sent x))) (sym (l.pipes.same x y)) (prefix_refl (of y (h.sent x)))) (Reactor n)
+    (λ y. each_more (ToReactor t n y) (λ (e : ActorId × Message). e.0 ≡ Reactor n → MayPush t y (Reactor n) e.1) (h.pushed y) (λ e q i. subst (λ (x : ActorId). MayPush t y x e.1) i (q i)) (all_to_reactor t (AimOf t) (EndOf t) past k n y)) in
     let same : collect fresh_in (of Door (h.sent (Reactor n))) ≡ collect fresh_in (bare (h.sent (Reactor n))) =
-        one_sender fresh_in Door (h.sent (Reactor n)) (each_more (λ (e : ActorId × Message). MayPush t e.0 (Reactor n) e.1) (λ (e : ActorId × Message). (fresh_in e.1 ≡ []) ⊎ (e.0 ≡ Door)) (h.sent (Reactor n)) (λ e q. fresh_sender t e.0 (Reactor n) e.1 q) routed) in
+    one_sender fresh_in Door (h.sent (Reactor n)) (each_more (λ (e : ActorId × Message). MayPush t e.0 (Reactor n) e.1) (λ (e : ActorId × Message). (fresh_in e.1 ≡ []) ⊎ (e.0 ≡ Door)) (h.sent (Reactor n)) (λ e q. fresh_sender t e.0 (Reactor n) e.1 q) routed) in
     record {
       routed = routed;
       once = subst Rises (ap (collect fresh_in) (l.pipes.same (Reactor n) Door) ∙ same)

@@ -144,7 +144,7 @@ task_sent t legal p c h l was w k lw id bytes early rest e =
     let pipe : IsPrefix (of (Worker w) (h.took (Tasker k))) (of (Tasker k) (h.pushed (Worker w))) = pipes h.took h.pushed h.sent l.pipes (Tasker k) (Worker w) in
     let same : of (Worker w) (h.took (Tasker k)) ≡ of (Worker w) early ++ EventMsg (Task w id bytes) ∷ of (Worker w) rest = ap (of (Worker w)) e ∙ taken_of (Worker w) early (EventMsg (Task w id bytes)) rest in
     let here : Has id (collect (task_id w) (of (Worker w) early ++ EventMsg (Task w id bytes) ∷ of (Worker w) rest)) =
-        subst (Has id) (sym (collect-append (task_id w) (of (Worker w) early) (EventMsg (Task w id bytes) ∷ of (Worker w) rest))) (has_right id (collect (task_id w) (of (Worker w) early)) (collect (task_id w) (EventMsg (Task w id bytes) ∷ of (Worker w) rest)) (own (w == w) (eq_same w w refl))) in
+    subst (Has id) (sym (collect-append (task_id w) (of (Worker w) early) (EventMsg (Task w id bytes) ∷ of (Worker w) rest))) (has_right id (collect (task_id w) (of (Worker w) early)) (collect (task_id w) (EventMsg (Task w id bytes) ∷ of (Worker w) rest)) (own (w == w) (eq_same w w refl))) in
     let taken : Has id (collect (task_id w) (of (Worker w) (h.took (Tasker k)))) = subst (λ (ms : List Message). Has id (collect (task_id w) ms)) (sym same) here in
     let q = prefix_collect (task_id w) (of (Worker w) (h.took (Tasker k))) (of (Tasker k) (h.pushed (Worker w))) pipe in
     let sent : Has id (collect (task_id w) (of (Tasker k) (h.pushed (Worker w)))) = subst (Has id) q.1 (has_left id (collect (task_id w) (of (Worker w) (h.took (Tasker k)))) q.0 taken) in
@@ -159,7 +159,7 @@ finish_sent : (t : Terms) (legal : List Ran → Type 0) (p : Actors t) (c : Core
 finish_sent t legal p c h l w k id bytes early rest e =
     let pipe : IsPrefix (of (Tasker k) (h.took (Worker w))) (of (Worker w) (h.pushed (Tasker k))) = pipes h.took h.pushed h.sent l.pipes (Worker w) (Tasker k) in
     let same : collect finish_in (of (Tasker k) (h.took (Worker w))) ≡ collect finish_in (of (Tasker k) early) ++ (id, bytes) ∷ collect finish_in (of (Tasker k) rest) =
-        ap (collect finish_in) (ap (of (Tasker k)) e ∙ taken_of (Tasker k) early (EventMsg (Finish id bytes)) rest) ∙ collect-append finish_in (of (Tasker k) early) (EventMsg (Finish id bytes) ∷ of (Tasker k) rest) in
+    ap (collect finish_in) (ap (of (Tasker k)) e ∙ taken_of (Tasker k) early (EventMsg (Finish id bytes)) rest) ∙ collect-append finish_in (of (Tasker k) early) (EventMsg (Finish id bytes) ∷ of (Tasker k) rest) in
     omega (arith, prefix_length (collect finish_in (of (Tasker k) (h.took (Worker w)))) (collect finish_in (of (Worker w) (h.pushed (Tasker k)))) (prefix_collect finish_in (of (Tasker k) (h.took (Worker w))) (of (Worker w) (h.pushed (Tasker k))) pipe), ap (λ (xs : List (ℕ × List ℕ)). length xs) same, length_append (collect finish_in (of (Tasker k) early)) ((id, bytes) ∷ collect finish_in (of (Tasker k) rest)))
 
 -- a turn
@@ -180,12 +180,12 @@ task_marks_turn t legal p c h l was y u calls le grows tells w k lw lk id bytes 
     let old = l.task_marks w k lw lk id bytes early rest e in
     let heard : List Event = collect (heard_in (Tasker k)) (bare early) in
     let took = frame y (λ b z. z ≡ Tasker k → (p.log (if b then u else c.states z) ≡ p.log (c.states z)) ⊎ ((x : Given × Act) × ((p.log (if b then u else c.states z) ≡ p.log (c.states z) ++ x ∷ []) × Each (λ m. length c.ports.table ≤ m) (told_places (x ∷ [])))))
-        (λ q. took_by t y (p.log (c.states y)) (p.log u) (h.pushed y) (length c.ports.table) grows (tells (subst (IsHand t) (sym q) (inr (k, (lk, refl)))))) (λ z q. inl refl) (Tasker k) refl in
+    (λ q. took_by t y (p.log (c.states y)) (p.log u) (h.pushed y) (length c.ports.table) grows (tells (subst (IsHand t) (sym q) (inr (k, (lk, refl)))))) (λ z q. inl refl) (Tasker k) refl in
     let sent = frame y (λ b z. z ≡ Worker w → (p.log (if b then u else c.states z) ≡ p.log (c.states z)) ⊎ ((x : Given × Act) × ((p.log (if b then u else c.states z) ≡ p.log (c.states z) ++ x ∷ []) × (id < posted_count (p.log (if b then u else c.states z))))))
-        (λ q. sent_by t y (p.log (c.states y)) (p.log u) (h.pushed y) posted_count id grows (subst (IsHand t) (sym q) (inl (w, (lw, refl)))) (λ s. (let a : id < length (collect (task_id w) (bare (h.pushed y))) = subst (λ (z : ActorId). id < length (collect (task_id w) (bare (h.pushed z)))) (sym q) (task_sent t legal p c h l was w k lw id bytes early rest e) in let b : length (collect (task_id w) (bare (h.pushed y))) ≤ posted_count (p.log u) = s.tasks w q in omega arith)))
-        (λ z q. inl refl) (Worker w) refl in
+    (λ q. sent_by t y (p.log (c.states y)) (p.log u) (h.pushed y) posted_count id grows (subst (IsHand t) (sym q) (inl (w, (lw, refl)))) (λ s. (let a : id < length (collect (task_id w) (bare (h.pushed y))) = subst (λ (z : ActorId). id < length (collect (task_id w) (bare (h.pushed z)))) (sym q) (task_sent t legal p c h l was w k lw id bytes early rest e) in let b : length (collect (task_id w) (bare (h.pushed y))) ≤ posted_count (p.log u) = s.tasks w q in omega arith)))
+    (λ z q. inl refl) (Worker w) refl in
     calls_grow n calls posted_count id _ _ heard le
-        (sender_grows n posted_count id (p.log (c.states (Worker w))) _ heard (taker_grows n posted_count id (p.log (c.states (Worker w))) (p.log (c.states (Tasker k))) heard old (p.log (if is (Tasker k) y then u else c.states (Tasker k))) took) (p.log (if is (Worker w) y then u else c.states (Worker w))) sent)
+    (sender_grows n posted_count id (p.log (c.states (Worker w))) _ heard (taker_grows n posted_count id (p.log (c.states (Worker w))) (p.log (c.states (Tasker k))) heard old (p.log (if is (Tasker k) y then u else c.states (Tasker k))) took) (p.log (if is (Worker w) y then u else c.states (Worker w))) sent)
 
 pub finish_marks_turn : (t : Terms) (legal : List Ran → Type 0) (p : Actors t) (c : Core p.State) (h : History) → Holds t legal p c h → c.lost ≡ false → (y : ActorId) (u : p.State) (calls : ℕ) → length c.ports.table ≤ calls → Grows t y (p.log (c.states y)) (p.log u) (h.pushed y) → (IsHand t y → TellsLater (length c.ports.table) (p.log (c.states y)) (p.log u)) → FinishMarks t calls h.took (λ z. p.log (if is z y then u else c.states z))
 finish_marks_turn t legal p c h l was y u calls le grows tells w k lw lk id bytes early rest e =
@@ -194,10 +194,10 @@ finish_marks_turn t legal p c h l was y u calls le grows tells w k lw lk id byte
     let old = l.finish_marks w k lw lk id bytes early rest e in
     let heard : List Event = collect (heard_in (Worker w)) (bare early) in
     let took = frame y (λ b z. z ≡ Worker w → (p.log (if b then u else c.states z) ≡ p.log (c.states z)) ⊎ ((x : Given × Act) × ((p.log (if b then u else c.states z) ≡ p.log (c.states z) ++ x ∷ []) × Each (λ m. length c.ports.table ≤ m) (told_places (x ∷ [])))))
-        (λ q. took_by t y (p.log (c.states y)) (p.log u) (h.pushed y) (length c.ports.table) grows (tells (subst (IsHand t) (sym q) (inl (w, (lw, refl)))))) (λ z q. inl refl) (Worker w) refl in
+    (λ q. took_by t y (p.log (c.states y)) (p.log u) (h.pushed y) (length c.ports.table) grows (tells (subst (IsHand t) (sym q) (inl (w, (lw, refl)))))) (λ z q. inl refl) (Worker w) refl in
     let sent = frame y (λ b z. z ≡ Tasker k → (p.log (if b then u else c.states z) ≡ p.log (c.states z)) ⊎ ((x : Given × Act) × ((p.log (if b then u else c.states z) ≡ p.log (c.states z) ++ x ∷ []) × (length (collect finish_in (of (Tasker k) early)) < made_count w (p.log (if b then u else c.states z))))))
-        (λ q. sent_by t y (p.log (c.states y)) (p.log u) (h.pushed y) (made_count w) (length (collect finish_in (of (Tasker k) early))) grows (subst (IsHand t) (sym q) (inr (k, (lk, refl))))
-            (λ s. (let a : length (collect finish_in (of (Tasker k) early)) < length (collect finish_in (of (Worker w) (h.pushed y))) = subst (λ (z : ActorId). length (collect finish_in (of (Tasker k) early)) < length (collect finish_in (of (Worker w) (h.pushed z)))) (sym q) (finish_sent t legal p c h l w k id bytes early rest e) in let b : length (collect finish_in (of (Worker w) (h.pushed y))) ≤ made_count w (p.log u) = s.finishes k w q in omega arith)))
-        (λ z q. inl refl) (Tasker k) refl in
+    (λ q. sent_by t y (p.log (c.states y)) (p.log u) (h.pushed y) (made_count w) (length (collect finish_in (of (Tasker k) early))) grows (subst (IsHand t) (sym q) (inr (k, (lk, refl))))
+    (λ s. (let a : length (collect finish_in (of (Tasker k) early)) < length (collect finish_in (of (Worker w) (h.pushed y))) = subst (λ (z : ActorId). length (collect finish_in (of (Tasker k) early)) < length (collect finish_in (of (Worker w) (h.pushed z)))) (sym q) (finish_sent t legal p c h l w k id bytes early rest e) in let b : length (collect finish_in (of (Worker w) (h.pushed y))) ≤ made_count w (p.log u) = s.finishes k w q in omega arith)))
+    (λ z q. inl refl) (Tasker k) refl in
     calls_grow n calls (made_count w) at _ _ heard le
-        (sender_grows n (made_count w) at (p.log (c.states (Tasker k))) _ heard (taker_grows n (made_count w) at (p.log (c.states (Tasker k))) (p.log (c.states (Worker w))) heard old (p.log (if is (Worker w) y then u else c.states (Worker w))) took) (p.log (if is (Tasker k) y then u else c.states (Tasker k))) sent)
+    (sender_grows n (made_count w) at (p.log (c.states (Tasker k))) _ heard (taker_grows n (made_count w) at (p.log (c.states (Tasker k))) (p.log (c.states (Worker w))) heard old (p.log (if is (Worker w) y then u else c.states (Worker w))) took) (p.log (if is (Tasker k) y then u else c.states (Tasker k))) sent)

@@ -61,7 +61,7 @@ note_taken t legal p c h l n ip s rest q y k =
     let same : Reactor (reactor_of t s) ≡ Reactor n = sym may.1 in
     let none : collect (fresh_of s) (bare (h.took (Reactor n))) ≡ [] = fresh_new (h.took (Reactor n)) rest Door ip s fair.once in
     subst (λ (x : ActorId). StandsEarly (p.log (c.states y)) s (collect (sends_in s) (of y (h.took x)))) same
-        (note_now t (AimOf t) (EndOf t) (past_of t p c h) (locals t legal p c h l) (joint t legal p c h l) s y k (subst (λ (x : ActorId). collect (fresh_of s) (bare (h.took x)) ≡ []) (sym same) none))
+    (note_now t (AimOf t) (EndOf t) (past_of t p c h) (locals t legal p c h l) (joint t legal p c h l) s y k (subst (λ (x : ActorId). collect (fresh_of s) (bare (h.took x)) ≡ []) (sym same) none))
 
 notes_take : (t : Terms) (legal : List Ran → Type 0) (p : Actors t) (c : Core p.State) (h : History) → Holds t legal p c h → (y : ActorId) (e : ActorId × Message) (rest : Mail) → h.sent y ≡ h.took y ++ e ∷ rest → NotesLaw t (put h.took y e) (λ z. p.log (c.states z))
 notes_take t legal p c h l y e rest q n z k ip s early back eq = pick (is (Reactor n) y) refl eq
@@ -73,7 +73,7 @@ notes_take t legal p c h l y e rest q n z k ip s early back eq = pick (is (React
         by (Before more a) = l.notes n z k ip s early more a
         by (AtLast a b) =
             subst (λ (ms : Mail). StandsEarly (p.log (c.states z)) s (collect (sends_in s) (of z ms))) a
-                (note_taken t legal p c h l n ip s rest (subst (λ (d : ActorId × Message). h.sent (Reactor n) ≡ h.took (Reactor n) ++ d ∷ rest) b (subst (λ (v : ActorId). h.sent v ≡ h.took v ++ e ∷ rest) i w)) z k)
+            (note_taken t legal p c h l n ip s rest (subst (λ (d : ActorId × Message). h.sent (Reactor n) ≡ h.took (Reactor n) ++ d ∷ rest) b (subst (λ (v : ActorId). h.sent v ≡ h.took v ++ e ∷ rest) i w)) z k)
 
     pick : (b : Bool) → is (Reactor n) y ≡ b → (if b then h.took (Reactor n) ++ e ∷ [] else h.took (Reactor n)) ≡ early ++ (Door, FreshMsg ip s) ∷ back → StandsEarly (p.log (c.states z)) s (collect (sends_in s) (of z early))
     pick true i g = at y (sym (is_same (Reactor n) y i)) q g
@@ -108,8 +108,8 @@ took_keeps t legal p c h l was y th q ((who, n) ∷ rest) split (m ∷ ms) insid
         local = frame y (λ b z. there t z ≡ true → LocalBy t p z (c.states z) (if b then Gave (GotTook m) else c.nexts z) (record { took = (if b then h.took z ++ e ∷ [] else h.took z); pushed = h.pushed z; refused = h.refused z; dids = h.dids z }))
             (λ k. subst (λ (v : Message). p.Quiet y (c.states y) (GotTook v) (record { took = h.took y ++ e ∷ []; pushed = h.pushed y; refused = h.refused y; dids = h.dids y })) i (q.1 who n)) l.local;
         absent = l.absent;
-    sound = λ ok. frame y (λ b z. IsSound (if b then Gave (GotTook m) else c.nexts z)) tt (l.sound ok);
-    may = l.may;
+        sound = λ ok. frame y (λ b z. IsSound (if b then Gave (GotTook m) else c.nexts z)) tt (l.sound ok);
+        may = l.may;
         pipes = take_keeps h.took h.pushed h.sent l.pipes y e rest split;
         lies = frame y (λ b z. Lies (if b then h.took z ++ e ∷ [] else h.took z) (h.sent z) (if b then ms else c.pipes z)) (record { rest = rest; split = split ∙ sym (append_assoc (h.took y) (e ∷ []) rest); inside = j }) l.lies;
         notes = notes_take t legal p c h l y e rest split;
@@ -163,13 +163,13 @@ pushed_keeps t legal p c h l y x m th q true room =
         pipes = push_keeps h.took h.pushed h.sent l.pipes y x m;
         lies = frame x (λ b z. Lies (h.took z) (if b then h.sent z ++ f ∷ [] else h.sent z) (if b then c.pipes x ++ m ∷ [] else c.pipes z))
             (record {
-               rest = k.rest ++ f ∷ [];
-               split = ap (λ (zs : Mail). zs ++ f ∷ []) k.split ∙ append_assoc (h.took x) k.rest (f ∷ []);
-               inside = collect-append msg_of k.rest (f ∷ []) ∙ ap (λ (zs : List Message). zs ++ m ∷ []) k.inside;
-             }) l.lies;
+              rest = k.rest ++ f ∷ [];
+              split = ap (λ (zs : Mail). zs ++ f ∷ []) k.split ∙ append_assoc (h.took x) k.rest (f ∷ []);
+              inside = collect-append msg_of k.rest (f ∷ []) ∙ ap (λ (zs : List Message). zs ++ m ∷ []) k.inside;
+            }) l.lies;
         notes = l.notes;
         task_marks = l.task_marks;
-    finish_marks = l.finish_marks;
+        finish_marks = l.finish_marks;
         ports = l.ports;
         full = λ z n v lt has. longer h.sent x f (Tasker n) t.pipe_capacity (l.full z n v lt has);
       },
@@ -181,22 +181,23 @@ pushed_keeps t legal p c h l y x m th q false room =
       record {
         local = frame y (λ b z. there t z ≡ true → LocalBy t p z (c.states z) (if b then Gave (GotFull m) else c.nexts z) (record { took = h.took z; pushed = h.pushed z; refused = (if b then h.refused z ++ e ∷ [] else h.refused z); dids = h.dids z })) (λ i. q.1) l.local;
         absent = l.absent;
-    sound = λ ok. frame y (λ b z. IsSound (if b then Gave (GotFull m) else c.nexts z)) tt (l.sound ok);
-    may = l.may;
+        sound = λ ok. frame y (λ b z. IsSound (if b then Gave (GotFull m) else c.nexts z)) tt (l.sound ok);
+        may = l.may;
         pipes = l.pipes;
         lies = l.lies;
         notes = l.notes;
         task_marks = l.task_marks;
-    finish_marks = l.finish_marks;
+        finish_marks = l.finish_marks;
         ports = l.ports;
         full = λ z n v lt. frame y (λ b w. Has (Tasker n, v) (if b then h.refused w ++ e ∷ [] else h.refused w) → t.pipe_capacity ≤ length (h.sent (Tasker n)))
-            (λ has. elim (has_more (Tasker n, v) (h.refused y) e has)
-              [ inl old ↦ l.full y n v lt old
+            (λ has. elim (has_more (Tasker n, v) (h.refused y) e has) [
+              | inl old ↦ l.full y n v lt old
               | inr new ↦ (let i : x ≡ Tasker n = ap (λ (d : ActorId × Message). d.0) new in
                   let a : t.pipe_capacity ≤ length (c.pipes x) = no_room t x (c.pipes x) n i lt room in
                   let b : length (c.pipes x) ≡ length k.rest = ap length (sym k.inside) ∙ length_bare k.rest in
                   let d : length (h.sent x) ≡ length (h.took x) + length k.rest = ap length k.split ∙ length_append (h.took x) k.rest in
-                  subst (λ (w : ActorId). t.pipe_capacity ≤ length (h.sent w)) i (omega arith)) ])
+                  subst (λ (w : ActorId). t.pipe_capacity ≤ length (h.sent w)) i (omega arith))
+            ])
             (λ w has. l.full w n v lt has) z;
       },
     )

@@ -44,7 +44,7 @@ by_place t kept told (x ∷ xs) ws f (suc at) l e has over = by_place t kept tol
 pub links_show : (t : Terms) (legal : List Ran → Type 0) (p : Actors t) (c : Core p.State) (h : History) → 1 ≤ t.reactor_num → Holds t legal p c h → LinksShow t (account_by t p c h) (outside t p c)
 links_show t legal p c h some l =
     subst (LinksShow t (account_by t p c h)) (ap (λ (xs : List (ℕ × Claim)). outside_of t (λ n. p.told (c.states (Reactor n))) xs c.ports.waiting) (sym l.ports.given))
-        (λ at k e has over. by_place t past.kept (λ n. p.told (c.states (Reactor n))) (collect accept_in (h.dids Door)) c.ports.waiting (λ x i. one x (shape t legal p c h some l x i)) at k e has over)
+    (λ at k e has over. by_place t past.kept (λ n. p.told (c.states (Reactor n))) (collect accept_in (h.dids Door)) c.ports.waiting (λ x i. one x (shape t legal p c h some l x i)) at k e has over)
   where
     past : Past
     past = past_of t p c h

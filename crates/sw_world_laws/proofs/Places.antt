@@ -130,6 +130,6 @@ pub told_new : (log : Log) (x : Given × Act) (mine ds : List Did) (n : ℕ) →
 told_new log x mine ds n d e a b h =
     let old : told_places log ≡ places (collect seat_in mine) = told_is log d ∙ ap places a in
     let all : told_places log ++ told_places (x ∷ []) ≡ places (collect seat_in mine) ++ places (collect seat_in ds) =
-        sym (collect-append place_of log (x ∷ [])) ∙ told_is (log ++ x ∷ []) e ∙ ap places b ∙ ap places (collect-append seat_in mine ds) ∙ collect-append at_of (collect seat_in mine) (collect seat_in ds) in
+    sym (collect-append place_of log (x ∷ [])) ∙ told_is (log ++ x ∷ []) e ∙ ap places b ∙ ap places (collect-append seat_in mine ds) ∙ collect-append at_of (collect seat_in mine) (collect seat_in ds) in
     let new : told_places (x ∷ []) ≡ places (collect seat_in ds) = append_same (places (collect seat_in mine)) (told_places (x ∷ [])) (places (collect seat_in ds)) (ap (λ (ns : List ℕ). ns ++ told_places (x ∷ [])) (sym old) ∙ all) in
     subst (Each (λ m. n ≤ m)) (sym new) h

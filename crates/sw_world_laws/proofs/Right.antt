@@ -67,13 +67,13 @@ end_laws t legal p c h some worker l ok d =
 pub right_world : (t : Terms) (legal : List Ran → Type 0) (p : Actors t) (c : Core p.State) → IsServer t → Law t legal p c → c.lost ≡ false → Right t legal (account t p c) (outside t p c) (accepted (account t p c))
 right_world t legal p c s (h, l) ok =
     subst (λ (r : Record). Right t legal r (outside t p c) (accepted r)) (account_is t legal p c h l)
-        (subst (Right t legal (account_by t p c h) (outside t p c)) (net_is t legal p c h s.reactors l)
-            (right t legal (past_of t p c h) (account_by t p c h) (outside t p c) s.low s.high (all_laws t legal p c h s.reactors l ok)))
+    (subst (Right t legal (account_by t p c h) (outside t p c)) (net_is t legal p c h s.reactors l)
+    (right t legal (past_of t p c h) (account_by t p c h) (outside t p c) s.low s.high (all_laws t legal p c h s.reactors l ok)))
 
 pub drained_world : (t : Terms) (legal : List Ran → Type 0) (p : Actors t) (c : Core p.State) → IsServer t → Law t legal p c → c.lost ≡ false → AllDone t p c → Drained t (account t p c)
 drained_world t legal p c s (h, l) ok d =
     subst (λ (r : Record). Drained t r) (account_is t legal p c h l)
-        (drained_right t legal (past_of t p c h) (account_by t p c h) (outside t p c) s.low s.high (all_laws t legal p c h s.reactors l ok) (end_laws t legal p c h s.reactors s.workers l ok d))
+    (drained_right t legal (past_of t p c h) (account_by t p c h) (outside t p c) s.low s.high (all_laws t legal p c h s.reactors l ok) (end_laws t legal p c h s.reactors s.workers l ok d))
 
 -- what tasks connect comes in its order among the calls of the Table
 pub seen_world : (t : Terms) (legal : List Ran → Type 0) (p : Actors t) (c : Core p.State) → IsServer t → Law t legal p c → c.lost ≡ false → AfterSeen (account t p c)
@@ -83,8 +83,8 @@ seen_world t legal p c s (h, l) ok = subst (λ (r : Record). AfterSeen r) (accou
 pub orderly_world : (t : Terms) (legal : List Ran → Type 0) (p : Actors t) (c : Core p.State) → IsServer t → Law t legal p c → Orderly t (account t p c) (accepted (account t p c))
 orderly_world t legal p c s (h, l) =
     subst (λ (r : Record). Orderly t r (accepted r)) (account_is t legal p c h l)
-        (subst (Orderly t (account_by t p c h)) (net_is t legal p c h s.reactors l)
-            (orderly_right t (past_of t p c h) (account_by t p c h) s.low s.high (locals t legal p c h l) (joint t legal p c h l) (is_shown t legal p c h s.reactors l) (released_in h) (word_laws t legal p c h l)))
+    (subst (Orderly t (account_by t p c h)) (net_is t legal p c h s.reactors l)
+    (orderly_right t (past_of t p c h) (account_by t p c h) s.low s.high (locals t legal p c h l) (joint t legal p c h l) (is_shown t legal p c h s.reactors l) (released_in h) (word_laws t legal p c h l)))
 
 pub rise_world : (t : Terms) (legal : List Ran → Type 0) (p : Actors t) (c : Core p.State) → IsServer t → Law t legal p c → SessionsRise (account t p c)
 rise_world t legal p c s (h, l) = subst (λ (r : Record). SessionsRise r) (account_is t legal p c h l) (sessions_rise t (AimOf t) (EndOf t) (past_of t p c h) (account_by t p c h) (locals t legal p c h l) (is_shown t legal p c h s.reactors l) (sym (net_is t legal p c h s.reactors l)))

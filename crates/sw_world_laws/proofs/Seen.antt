@@ -91,7 +91,7 @@ locate y ((who, m) ∷ ms) xs e ys q = by (heard_one y m) q (λ zs r. locate y m
 at_event : (y : ActorId) (took : Mail) (log front rest : Log) (e : Event) (act : Act) → IsPrefix (events_of log) (collect (heard_in y) (bare took)) → log ≡ front ++ (EventGiven e, act) ∷ rest → Where y took (events_of front) e
 at_event y took log front rest e act p q =
     locate y took (events_of front) e (events_of rest ++ p.0)
-        (sym p.1 ∙ ap (λ (v : Log). events_of v ++ p.0) q ∙ ap (λ (v : List Event). v ++ p.0) (collect-append event_of front ((EventGiven e, act) ∷ rest)) ∙ append_assoc (events_of front) (e ∷ events_of rest) p.0)
+    (sym p.1 ∙ ap (λ (v : Log). events_of v ++ p.0) q ∙ ap (λ (v : List Event). v ++ p.0) (collect-append event_of front ((EventGiven e, act) ∷ rest)) ∙ append_assoc (events_of front) (e ∷ events_of rest) p.0)
 
 -- a part of a log that has no more events than stand before this one ends before it
 ends_before : (before since front : Log) (e : Event) (act : Act) (rest : Log) → before ++ since ≡ front ++ (EventGiven e, act) ∷ rest → length (events_of before) ≤ length (events_of front) → (v : Log) × (since ≡ v ++ (EventGiven e, act) ∷ rest)
@@ -211,7 +211,7 @@ posted_few log id before behind given c p = by behind p.split p.next
         omega (arith, q)
     by ((AnswerGiven (Posted n), act) ∷ xs) e q =
         let a : collect posted_in log ≡ collect posted_in (before ++ (given, TaskAct p.dst p.bytes) ∷ []) ++ n ∷ collect posted_in xs =
-            ap (collect posted_in) (e ∙ sym (append_assoc before ((given, TaskAct p.dst p.bytes) ∷ []) ((AnswerGiven (Posted n), act) ∷ xs))) ∙ collect-append posted_in (before ++ (given, TaskAct p.dst p.bytes) ∷ []) ((AnswerGiven (Posted n), act) ∷ xs) in
+        ap (collect posted_in) (e ∙ sym (append_assoc before ((given, TaskAct p.dst p.bytes) ∷ []) ((AnswerGiven (Posted n), act) ∷ xs))) ∙ collect-append posted_in (before ++ (given, TaskAct p.dst p.bytes) ∷ []) ((AnswerGiven (Posted n), act) ∷ xs) in
         let b : n ≡ 0 + length (collect posted_in (before ++ (given, TaskAct p.dst p.bytes) ∷ [])) = counting_at 0 n (collect posted_in (before ++ (given, TaskAct p.dst p.bytes) ∷ [])) (collect posted_in xs) (subst (IsCounting 0) a c) in
         omega (arith, q, few_posted Done (before ++ (given, TaskAct p.dst p.bytes) ∷ []))
     by ((EventGiven e', act) ∷ xs) e q = absurd q
@@ -262,9 +262,13 @@ seen_task t legal p c h l ok w k lw lk id bytes act front rest before behind giv
     let came : Each (λ (e : ActorId × Message). MayPush t e.0 (Tasker k) e.1) (at.early ++ (at.who, EventMsg (Task w id bytes)) ∷ at.rest) = subst (Each (λ (e : ActorId × Message). MayPush t e.0 (Tasker k) e.1)) at.split (took_all t (AimOf t) (EndOf t) (past_of t p c h) (locals t legal p c h l) (joint t legal p c h l) (Tasker k)) in
     let who : at.who ≡ Worker w = (each_right (λ (e : ActorId × Message). MayPush t e.0 (Tasker k) e.1) at.early ((at.who, EventMsg (Task w id bytes)) ∷ at.rest) came).0.0 in
     let m = l.task_marks w k lw lk id bytes at.early at.rest (at.split ∙ ap (λ (v : ActorId). at.early ++ (v, EventMsg (Task w id bytes)) ∷ at.rest) who) in
-    let counting : IsCounting 0 (collect posted_in (p.log (c.states (Worker w)))) = ((task_locals t legal p c h l ok).worker w lw).posted in
-    (m.mark, (told_before (length c.ports.table) posted_count id (p.log (c.states (Worker w))) (p.log (c.states (Tasker k))) (collect (heard_in (Tasker k)) (bare at.early)) m (λ xs ys. posted_grows Done xs ys) before behind given (TaskAct q.dst q.bytes) q.split (posted_few (p.log (c.states (Worker w))) id before behind given counting q),
-      told_behind m.mark m.before m.since front (Task w id bytes) act rest (sym m.taken ∙ e) (let le : length (events_of m.before) ≤ length (collect (heard_in (Tasker k)) (bare at.early)) = prefix_length (events_of m.before) (collect (heard_in (Tasker k)) (bare at.early)) m.told in omega (arith, ap (λ (v : List Event). length v) at.heard)) m.above))
+    let counting : IsCounting 0 (collect posted_in (p.log (c.states (Worker w)))) = ((task_locals t legal p c h l ok).worker w lw).posted in (
+      m.mark,
+      (
+        told_before (length c.ports.table) posted_count id (p.log (c.states (Worker w))) (p.log (c.states (Tasker k))) (collect (heard_in (Tasker k)) (bare at.early)) m (λ xs ys. posted_grows Done xs ys) before behind given (TaskAct q.dst q.bytes) q.split (posted_few (p.log (c.states (Worker w))) id before behind given counting q),
+        told_behind m.mark m.before m.since front (Task w id bytes) act rest (sym m.taken ∙ e) (let le : length (events_of m.before) ≤ length (collect (heard_in (Tasker k)) (bare at.early)) = prefix_length (events_of m.before) (collect (heard_in (Tasker k)) (bare at.early)) m.told in omega (arith, ap (λ (v : List Event). length v) at.heard)) m.above,
+      ),
+    )
 
 seen_finish : (t : Terms) (legal : List Ran → Type 0) (p : Actors t) (c : Core p.State) (h : History) → Holds t legal p c h → c.lost ≡ false → (w k : ℕ) → w < t.worker_num → k < t.tasker_num → (id : ℕ) (bytes : List ℕ) (act : Act) (front rest before behind : Log) (given : Given) → p.log (c.states (Worker w)) ≡ front ++ (EventGiven (Finish id bytes), act) ∷ rest → Has id (numbers (tasks_of w (p.log (c.states (Tasker k))))) → IsMadeAt w (p.log (c.states (Tasker k))) (length (only (numbers (tasks_of w (p.log (c.states (Tasker k))))) (finishes_of front))) before behind given → IsMarked (told_places (before ++ (given, Done) ∷ [])) (told_places rest)
 seen_finish t legal p c h l ok w k lw lk id bytes act front rest before behind given e has q =
@@ -272,16 +276,21 @@ seen_finish t legal p c h l ok w k lw lk id bytes act front rest before behind g
     let at = at_event (Worker w) (h.took (Worker w)) (p.log (c.states (Worker w))) front rest (Finish id bytes) act (hand_law t legal p c h l (Worker w) (inl (w, (lw, refl)))).told e in
     let all = sorted t (AimOf t) (EndOf t) (past_of t p c h) (locals t legal p c h l) (joint t legal p c h l) (task_locals t legal p c h l ok) w k lw lk in
     let parts = subst (Each _) at.split all in
-    let who : at.who ≡ Tasker k = elim (each_right _ at.early ((at.who, EventMsg (Finish id bytes)) ∷ at.rest) parts).0
-        [ inl r ↦ r.0
-        | inr r ↦ absurd (let i : among ids id ≡ false = r.1.0 in let j : among ids id ≡ true = among_has ids id has in let v : true ≡ false = sym j ∙ i in cc) ] in
+    let who : at.who ≡ Tasker k = elim (each_right _ at.early ((at.who, EventMsg (Finish id bytes)) ∷ at.rest) parts).0 [
+      | inl r ↦ r.0
+      | inr r ↦ absurd (let i : among ids id ≡ false = r.1.0 in let j : among ids id ≡ true = among_has ids id has in let v : true ≡ false = sym j ∙ i in cc)
+    ] in
     let m = l.finish_marks w k lw lk id bytes at.early at.rest (at.split ∙ ap (λ (v : ActorId). at.early ++ (v, EventMsg (Finish id bytes)) ∷ at.rest) who) in
     let share : only ids (collect finish_in (bare at.early)) ≡ collect finish_in (of (Tasker k) at.early) = only_share ids (Tasker k) at.early (each_left _ at.early ((at.who, EventMsg (Finish id bytes)) ∷ at.rest) parts) in
     let given_back : finishes_of front ≡ collect finish_in (bare at.early) = ap (collect finish_of) (sym at.heard) ∙ collect-collect finish_of (heard_in (Worker w)) (bare at.early) ∙ collect-same (λ x. collect finish_of (heard_in (Worker w) x)) finish_in (heard_finish w) (bare at.early) in
     let number : length (only ids (finishes_of front)) ≡ length (collect finish_in (of (Tasker k) at.early)) = ap (λ (v : List (ℕ × List ℕ)). length (only ids v)) given_back ∙ ap (λ (v : List (ℕ × List ℕ)). length v) share in
-    let few : made_count w (before ++ (given, FinishAct q.bytes) ∷ []) ≤ length (only ids (finishes_of front)) = made_few w (p.log (c.states (Tasker k))) (length (only ids (finishes_of front))) before behind given q in
-    (m.mark, (told_before (length c.ports.table) (made_count w) (length (collect finish_in (of (Tasker k) at.early))) (p.log (c.states (Tasker k))) (p.log (c.states (Worker w))) (collect (heard_in (Worker w)) (bare at.early)) m (λ xs ys. given_grows w [] Done xs ys) before behind given (FinishAct q.bytes) q.split (omega (arith, few, number)),
-      told_behind m.mark m.before m.since front (Finish id bytes) act rest (sym m.taken ∙ e) (let le : length (events_of m.before) ≤ length (collect (heard_in (Worker w)) (bare at.early)) = prefix_length (events_of m.before) (collect (heard_in (Worker w)) (bare at.early)) m.told in omega (arith, ap (λ (v : List Event). length v) at.heard)) m.above))
+    let few : made_count w (before ++ (given, FinishAct q.bytes) ∷ []) ≤ length (only ids (finishes_of front)) = made_few w (p.log (c.states (Tasker k))) (length (only ids (finishes_of front))) before behind given q in (
+      m.mark,
+      (
+        told_before (length c.ports.table) (made_count w) (length (collect finish_in (of (Tasker k) at.early))) (p.log (c.states (Tasker k))) (p.log (c.states (Worker w))) (collect (heard_in (Worker w)) (bare at.early)) m (λ xs ys. given_grows w [] Done xs ys) before behind given (FinishAct q.bytes) q.split (omega (arith, few, number)),
+        told_behind m.mark m.before m.since front (Finish id bytes) act rest (sym m.taken ∙ e) (let le : length (events_of m.before) ≤ length (collect (heard_in (Worker w)) (bare at.early)) = prefix_length (events_of m.before) (collect (heard_in (Worker w)) (bare at.early)) m.told in omega (arith, ap (λ (v : List Event). length v) at.heard)) m.above,
+      ),
+    )
 
 pub seen_laws : (t : Terms) (legal : List Ran → Type 0) (p : Actors t) (c : Core p.State) (h : History) → Holds t legal p c h → c.lost ≡ false → SeenLaws t (past_of t p c h)
 seen_laws t legal p c h l ok =

@@ -54,8 +54,8 @@ perm_both : {A : Type 0} (f g : A → List LinkRecord) (xs : List A) → Perm Li
 perm_both f g [] = Nil
 perm_both f g (x ∷ xs) =
     Then (perm_is (append_assoc (f x) (collect f xs) (g x ++ collect g xs)))
-        (Then (perm_front (f x) (move (collect f xs) (g x) (collect g xs)))
-            (Then (perm_front (f x) (perm_front (g x) (perm_both f g xs))) (perm_is (sym (append_assoc (f x) (g x) (collect (λ y. f y ++ g y) xs))))))
+    (Then (perm_front (f x) (move (collect f xs) (g x) (collect g xs)))
+    (Then (perm_front (f x) (perm_front (g x) (perm_both f g xs))) (perm_is (sym (append_assoc (f x) (g x) (collect (λ y. f y ++ g y) xs))))))
   where
     move : (xs bs cs : List LinkRecord) → Perm LinkRecord (xs ++ (bs ++ cs)) (bs ++ (xs ++ cs))
     move xs [] cs = perm_refl (xs ++ cs)
@@ -150,9 +150,14 @@ abbrev old_of : List LinkRecord → ℕ × Claim → List LinkRecord
 old_of ls x = collect (λ s. opt (link_in s ls)) (drew_in x)
 
 pub shares_of : (t : Terms) (legal : List Ran → Type 0) (p : Actors t) (c : Core p.State) (h : History) → 1 ≤ t.reactor_num → Holds t legal p c h → (n : ℕ) → n < t.reactor_num → (new : List LinkRecord) × (Each IsNew new × Perm LinkRecord (p.kept (c.states (Reactor n)) ++ new) (collect (link_of t n) (account_by t p c h).links))
-shares_of t legal p c h some l n lt =
-    (collect (new_of t n ls) accepts, (each_collect IsNew (new_of t n ls) accepts (each_all (λ x. Each IsNew (new_of t n ls x)) accepts (λ x. new_are t n ls x)), Then (perm_behind (collect (new_of t n ls) accepts) (Then (perm_kept (collect drew_in accepts) distinct ls each more.distinct) (perm_is (collect-collect (λ s. opt (link_in s ls)) drew_in accepts))))
-        (Then (perm_both (old_of ls) (new_of t n ls) accepts) (perm_is (sym all)))))
+shares_of t legal p c h some l n lt = (
+  collect (new_of t n ls) accepts,
+  (
+    each_collect IsNew (new_of t n ls) accepts (each_all (λ x. Each IsNew (new_of t n ls x)) accepts (λ x. new_are t n ls x)),
+    Then (perm_behind (collect (new_of t n ls) accepts) (Then (perm_kept (collect drew_in accepts) distinct ls each more.distinct) (perm_is (collect-collect (λ s. opt (link_in s ls)) drew_in accepts))))
+        (Then (perm_both (old_of ls) (new_of t n ls) accepts) (perm_is (sym all))),
+  ),
+)
   where
     past : Past
     past = past_of t p c h
@@ -178,9 +183,9 @@ shares_of t legal p c h some l n lt =
     own s k has e =
         let kept = (shows t (AimOf t) (EndOf t) (past_of t p c h) (locals t legal p c h l) (joint t legal p c h l) n lt).keeps s k has e in
         let here : Has s (collect fresh_in (bare (h.took (Reactor n)))) =
-            subst (λ (ms : Mail). Has s (collect fresh_in (bare ms))) (sym kept.split)
-                (subst (Has s) (sym (ap (collect fresh_in) (collect-append msg_of kept.early ((Door, FreshMsg k.ip s) ∷ (kept.mid ++ kept.later))) ∙ collect-append fresh_in (bare kept.early) (FreshMsg k.ip s ∷ bare (kept.mid ++ kept.later))))
-                    (has_right s (collect fresh_in (bare kept.early)) (s ∷ collect fresh_in (bare (kept.mid ++ kept.later))) (0, refl))) in
+        subst (λ (ms : Mail). Has s (collect fresh_in (bare ms))) (sym kept.split)
+        (subst (Has s) (sym (ap (collect fresh_in) (collect-append msg_of kept.early ((Door, FreshMsg k.ip s) ∷ (kept.mid ++ kept.later))) ∙ collect-append fresh_in (bare kept.early) (FreshMsg k.ip s ∷ bare (kept.mid ++ kept.later))))
+        (has_right s (collect fresh_in (bare kept.early)) (s ∷ collect fresh_in (bare (kept.mid ++ kept.later))) (0, refl))) in
         let q : Reactor n ≡ Reactor (reactor_of t s) = fresh_routed t n (h.took (Reactor n)) (fair_took t legal p c h l n).routed s here in
         cc
 

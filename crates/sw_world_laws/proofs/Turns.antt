@@ -98,9 +98,9 @@ may_free t legal p c h l y ds kept told may after = by (frees_by t y ds may)
     at n lt e =
         let more = after n lt e (subst (λ (z : ActorId). IsFair t n (h.took z)) (sym e) (fair_took t legal p c h l n)) in
         let fresh : Each (λ s. Has s (collect fresh_in (bare (h.took (Reactor n))))) (firsts (collect free_in ds)) =
-            subst (λ (z : ActorId). Each (λ s. Has s (collect fresh_in (bare (h.took z)))) (firsts (collect free_in ds))) e
-                (each_right (λ s. Has s (collect fresh_in (bare (h.took y)))) (firsts (collect free_in (h.dids y))) (firsts (collect free_in ds))
-                    (subst (Each (λ s. Has s (collect fresh_in (bare (h.took y))))) (ap firsts (collect-append free_in (h.dids y) ds) ∙ collect-append first_of (collect free_in (h.dids y)) (collect free_in ds)) more.freed_fresh)) in
+        subst (λ (z : ActorId). Each (λ s. Has s (collect fresh_in (bare (h.took z)))) (firsts (collect free_in ds))) e
+        (each_right (λ s. Has s (collect fresh_in (bare (h.took y)))) (firsts (collect free_in (h.dids y))) (firsts (collect free_in ds))
+        (subst (Each (λ s. Has s (collect fresh_in (bare (h.took y))))) (ap firsts (collect-append free_in (h.dids y) ds) ∙ collect-append first_of (collect free_in (h.dids y)) (collect free_in ds)) more.freed_fresh)) in
         record {
           once = λ ne. more.freed_once;
           drawn = each_at (λ s. Has s (drawn_by h.dids)) (firsts (collect free_in ds)) (λ s k. each_has (λ r. Has r (drawn_by h.dids)) (collect fresh_in (bare (h.took (Reactor n)))) s (all_drawn n) (each_has (λ r. Has r (collect fresh_in (bare (h.took (Reactor n))))) (firsts (collect free_in ds)) s fresh k));
@@ -122,8 +122,8 @@ note_grows : (t : Terms) (legal : List Ran → Type 0) (p : Actors t) (c : Core 
 note_grows t legal p c h l y more (inl same) n k ip s early rest e = subst (λ (v : Log). StandsEarly v s (collect (sends_in s) (of y early))) (sym same) (l.notes n y k ip s early rest e)
 note_grows t legal p c h l y more (inr (x, (q, settles))) n k ip s early rest e =
     subst (λ (v : Log). StandsEarly v s (collect (sends_in s) (of y early))) (sym q)
-        (note_later t (p.log (c.states y)) x.0 x.1 s (collect (sends_in s) (of y early)) (collect (talk_in s) (of (Reactor (reactor_of t s)) (h.pushed y))) (l.notes n y k ip s early rest e) among
-            (subst (λ (v : Log). IsPrefix (collect (talk_in s) (of (Reactor (reactor_of t s)) (h.pushed y))) (settled t s v)) q ((settles k).talk s)))
+    (note_later t (p.log (c.states y)) x.0 x.1 s (collect (sends_in s) (of y early)) (collect (talk_in s) (of (Reactor (reactor_of t s)) (h.pushed y))) (l.notes n y k ip s early rest e) among
+    (subst (λ (v : Log). IsPrefix (collect (talk_in s) (of (Reactor (reactor_of t s)) (h.pushed y))) (settled t s v)) q ((settles k).talk s)))
   where
     here : Reactor n ≡ Reactor (reactor_of t s)
     here = (each_right (λ (e : ActorId × Message). MayPush t e.0 (Reactor n) e.1) early ((Door, FreshMsg ip s) ∷ rest) (subst (Each (λ (e : ActorId × Message). MayPush t e.0 (Reactor n) e.1)) e (fair_took t legal p c h l n).routed)).0.1
@@ -143,25 +143,24 @@ turn_keeps : (t : Terms) (legal : List Ran → Type 0) (p : Actors t) (c : Core 
     LocalBy t p y u n (with_dids (diary_of h y) dids) → (lost ≡ false → IsSound n) → Each (MayDo t y) dids → AllAnswer t legal c.ports y dids → Grows t y (p.log (c.states y)) (p.log u) (h.pushed y) → (IsHand t y → TellsLater (length c.ports.table) (p.log (c.states y)) (p.log u)) →
     ((m : ℕ) → m < t.reactor_num → y ≡ Reactor m → IsFair t m (h.took y) → ReactorMore t (p.kept u) (p.told u) (with_dids (diary_of h y) dids)) →
     Law t legal p (record { states = set_at c.states y u; nexts = set_at c.nexts y n; pipes = c.pipes; ports = all_ported t c.ports y dids; feed = feed; lost = lost })
-turn_keeps t legal p c h l was y th dids u n lost feed local sound may answers grows tells frees =
-    (
-      record h { dids = add_all h.dids y dids },
-      record {
-        local = frame y (λ b z. there t z ≡ true → LocalBy t p z (if b then u else c.states z) (if b then n else c.nexts z) (record { took = h.took z; pushed = h.pushed z; refused = h.refused z; dids = (if b then h.dids z ++ dids else h.dids z) })) (λ i. local) l.local;
-        absent = l.absent;
-        sound = λ ok. frame y (λ b z. IsSound (if b then n else c.nexts z)) (sound ok) (l.sound was);
-        may = frame y (λ b z. Each (MayDo t z) (if b then h.dids z ++ dids else h.dids z)) (each_append (MayDo t y) (h.dids y) dids (l.may y) may) l.may;
-        pipes = l.pipes;
-        lies = l.lies;
-        notes = λ m z k ip s early rest e. frame y (λ b x. IsHand t x → StandsEarly (p.log (if b then u else c.states x)) s (collect (sends_in s) (of x early)))
-            (λ i. note_grows t legal p c h l y (p.log u) grows m i ip s early rest e)
-            (λ x i. l.notes m x i ip s early rest e) z k;
-        task_marks = task_marks_turn t legal p c h l was y u (length (all_ported t c.ports y dids).table) (table_grows t y c.ports dids) grows tells;
-        finish_marks = finish_marks_turn t legal p c h l was y u (length (all_ported t c.ports y dids).table) (table_grows t y c.ports dids) grows tells;
-        ports = calls_keep t legal c.ports h.dids l.ports y dids may answers (may_free t legal p c h l y dids (p.kept u) (p.told u) may frees);
-        full = l.full;
-      },
-    )
+turn_keeps t legal p c h l was y th dids u n lost feed local sound may answers grows tells frees = (
+  record h { dids = add_all h.dids y dids },
+  record {
+    local = frame y (λ b z. there t z ≡ true → LocalBy t p z (if b then u else c.states z) (if b then n else c.nexts z) (record { took = h.took z; pushed = h.pushed z; refused = h.refused z; dids = (if b then h.dids z ++ dids else h.dids z) })) (λ i. local) l.local;
+    absent = l.absent;
+    sound = λ ok. frame y (λ b z. IsSound (if b then n else c.nexts z)) (sound ok) (l.sound was);
+    may = frame y (λ b z. Each (MayDo t z) (if b then h.dids z ++ dids else h.dids z)) (each_append (MayDo t y) (h.dids y) dids (l.may y) may) l.may;
+    pipes = l.pipes;
+    lies = l.lies;
+    notes = λ m z k ip s early rest e. frame y (λ b x. IsHand t x → StandsEarly (p.log (if b then u else c.states x)) s (collect (sends_in s) (of x early)))
+        (λ i. note_grows t legal p c h l y (p.log u) grows m i ip s early rest e)
+        (λ x i. l.notes m x i ip s early rest e) z k;
+    task_marks = task_marks_turn t legal p c h l was y u (length (all_ported t c.ports y dids).table) (table_grows t y c.ports dids) grows tells;
+    finish_marks = finish_marks_turn t legal p c h l was y u (length (all_ported t c.ports y dids).table) (table_grows t y c.ports dids) grows tells;
+    ports = calls_keep t legal c.ports h.dids l.ports y dids may answers (may_free t legal p c h l y dids (p.kept u) (p.told u) may frees);
+    full = l.full;
+  },
+)
 
 pub turned_keeps : (t : Terms) (legal : List Ran → Type 0) (p : Actors t) (c : Core p.State) (h : History) → Holds t legal p c h → c.lost ≡ false → (y : ActorId) → there t y ≡ true → (o : Outcome p.State) (got : Got) → IsTurn t legal p c y o got → p.Quiet y (c.states y) got (diary_of h y) → Law t legal p (turned t p c y o)
 turned_keeps t legal p c h l was y th o got turn q = by o.fails turn.0
@@ -173,17 +172,17 @@ turned_keeps t legal p c h l was y th o got turn q = by o.fails turn.0
     by true made =
         let lost = p.fails y (c.states y) got (handed p.has c y) o.dids o.state (diary_of h y) made q in
         turn_keeps t legal p c h l was y th o.dids o.state Lost true (collect (part_of (p.has (c.states y)) false) c.feed) lost (λ e. absurd (cc)) (p.fails_may y (c.states y) got (handed p.has c y) o.dids o.state made) turn.1
-            (inl (p.fails_still y (c.states y) got (handed p.has c y) o.dids o.state made))
-            (λ k x e. absurd (let same : p.log (c.states y) ≡ p.log (c.states y) ++ x ∷ [] = sym (p.fails_still y (c.states y) got (handed p.has c y) o.dids o.state made) ∙ e in omega (arith, ap (λ (v : Log). length v) same, length_append (p.log (c.states y)) (x ∷ []))))
-            (λ m lt e. absurd (no_hand_reactor t m (subst (IsHand t) e (p.lost_shows y o.state (with_dids (diary_of h y) o.dids) lost).hand)))
+        (inl (p.fails_still y (c.states y) got (handed p.has c y) o.dids o.state made))
+        (λ k x e. absurd (let same : p.log (c.states y) ≡ p.log (c.states y) ++ x ∷ [] = sym (p.fails_still y (c.states y) got (handed p.has c y) o.dids o.state made) ∙ e in omega (arith, ap (λ (v : Log). length v) same, length_append (p.log (c.states y)) (x ∷ []))))
+        (λ m lt e. absurd (no_hand_reactor t m (subst (IsHand t) e (p.lost_shows y o.state (with_dids (diary_of h y) o.dids) lost).hand)))
     by false made =
         let after = p.keeps y (c.states y) got (handed p.has c y) o.dids o.state o.ask (diary_of h y) made q in
         turn_keeps t legal p c h l was y th o.dids o.state (Waits o.ask) false (collect (part_of (p.has (c.states y)) false) c.feed) after (λ e. tt) (p.may y (c.states y) got (handed p.has c y) o.dids o.state o.ask made) turn.1
-            (p.grows y (c.states y) got (handed p.has c y) o.dids o.state o.ask (diary_of h y) made q)
-            (λ k x e. (let new = (p.shows_after y o.state o.ask (with_dids (diary_of h y) o.dids) after).hand k in
-                told_new (p.log (c.states y)) x (h.dids y) o.dids (length c.ports.table) (hand_law t legal p c h l y k).dialogue (subst Dialogue e new.law.dialogue) ((shown t legal p c h l was y th).hand k).logged (subst (λ (v : Log). placed v ≡ collect seat_in (h.dids y ++ o.dids)) e new.logged)
-                    (seats_above t legal y (length c.ports.table) c.ports o.dids (omega arith) turn.1)))
-            (λ m lt e fair. ((p.shows_after y o.state o.ask (with_dids (diary_of h y) o.dids) after).reactor m lt e).1 fair)
+        (p.grows y (c.states y) got (handed p.has c y) o.dids o.state o.ask (diary_of h y) made q)
+        (λ k x e. (let new = (p.shows_after y o.state o.ask (with_dids (diary_of h y) o.dids) after).hand k in
+        told_new (p.log (c.states y)) x (h.dids y) o.dids (length c.ports.table) (hand_law t legal p c h l y k).dialogue (subst Dialogue e new.law.dialogue) ((shown t legal p c h l was y th).hand k).logged (subst (λ (v : Log). placed v ≡ collect seat_in (h.dids y ++ o.dids)) e new.logged)
+        (seats_above t legal y (length c.ports.table) c.ports o.dids (omega arith) turn.1)))
+        (λ m lt e fair. ((p.shows_after y o.state o.ask (with_dids (diary_of h y) o.dids) after).reactor m lt e).1 fair)
 
 -- the sessions that came to a reactor were drawn
 pub took_drawn : (t : Terms) (legal : List Ran → Type 0) (p : Actors t) (c : Core p.State) (h : History) → Holds t legal p c h → (n : ℕ) → Each (λ s. Has s (drawn_by h.dids)) (collect fresh_in (bare (h.took (Reactor n))))

@@ -189,7 +189,7 @@ adds_keep t counts dids h y c =
         let a : counts d z ≤ length (collect (add_in d) (dids z)) = h.own d z in
         let k : (if nat_lt (counts d z) greatest then counts d z + 1 else counts d z) ≤ counts d z + 1 = three d z (nat_lt (counts d z) greatest) in
         let v : length (collect (add_in d) (dids z ++ Adds c ∷ [])) ≡ length (collect (add_in d) (dids z)) + 1 =
-            ap length (collect-append (add_in d) (dids z) (Adds c ∷ [])) ∙ length_append (collect (add_in d) (dids z)) (when (same_counter c d) 0 ++ []) ∙ ap (λ b. length (collect (add_in d) (dids z)) + length {A = ℕ} (when b 0 ++ [])) (counter_same c d (sym (counter_is d c e))) in
+        ap length (collect-append (add_in d) (dids z) (Adds c ∷ [])) ∙ length_append (collect (add_in d) (dids z)) (when (same_counter c d) 0 ++ []) ∙ ap (λ b. length (collect (add_in d) (dids z)) + length {A = ℕ} (when b 0 ++ [])) (counter_same c d (sym (counter_is d c e))) in
         omega arith
     two d z e false = h.own d z
 
@@ -215,11 +215,13 @@ sum_now t counts dids h y c n hand e =
     let s : ℕ = sum_of (counts c) (everyone t) in
     let mine : counts c y ≤ sum_of (counts c) (everyone t) = sum_has (counts c) (everyone t) y (has_right y (Door ∷ crew Reactor 0 t.reactor_num) (hands t) (hands_have t y hand)) in
     subst (λ v. (length (collect (add_in c) (dids y)) ≤ v) ⊎ (v ≡ greatest)) (sym e)
-        (elim (h.own_least c y)
-          [ inl le ↦ capped_at (sum_of (counts c) (everyone t)) (length (collect (add_in c) (dids y))) (omega arith)
-          | inr full ↦ elim (capped_at (sum_of (counts c) (everyone t)) greatest (omega (arith, full, mine)))
-              [ inl le ↦ inr (omega (arith, le, capped_most (sum_of (counts c) (everyone t))))
-              | inr q ↦ inr q ] ])
+    (elim (h.own_least c y) [
+      | inl le ↦ capped_at (sum_of (counts c) (everyone t)) (length (collect (add_in c) (dids y))) (omega arith)
+      | inr full ↦ elim (capped_at (sum_of (counts c) (everyone t)) greatest (omega (arith, full, mine))) [
+        | inl le ↦ inr (omega (arith, le, capped_most (sum_of (counts c) (everyone t))))
+        | inr q ↦ inr q
+      ]
+    ])
 
 pub counts_keep : (t : Terms) (legal : List Ran → Type 0) (p : Ports) (dids : ActorId → List Did) → CountsLaw t p.counts dids → (y : ActorId) (d : Did) → MayDo t y d → Answers t legal p y d → CountsLaw t (ported t p y d).counts (add dids y d)
 counts_keep t legal p dids h y (Adds c) may ans = adds_keep t p.counts dids h y c

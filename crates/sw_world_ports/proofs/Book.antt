@@ -126,11 +126,13 @@ free_keeps t words last a f p l n s u lt ns e g =
 
     below : (m : ℕ) → m < t.reactor_num → (r : ℕ) → Has r (firsts (f (Reactor m))) → r % t.max_conn ≡ s % t.max_conn → r < s
     below m less r h e =
-        elim (cases_lt r s)
-          [ inl q ↦ q
-          | inr q ↦ elim (equal_or_not s r)
-              [ inl i ↦ absurd (here.1.0 (subst (IsFreed t f) (sym i) (m, (less, h))))
-              | inr ne ↦ absurd (here.1.0 (l.again s r here.0 (l.released r (m, (less, h))) (omega (arith, q, ne)) (sym e))) ] ]
+        elim (cases_lt r s) [
+          | inl q ↦ q
+          | inr q ↦ elim (equal_or_not s r) [
+            | inl i ↦ absurd (here.1.0 (subst (IsFreed t f) (sym i) (m, (less, h))))
+            | inr ne ↦ absurd (here.1.0 (l.again s r here.0 (l.released r (m, (less, h))) (omega (arith, q, ne)) (sym e)))
+          ]
+        ]
 
     at_rise : (m : ℕ) → m < t.reactor_num → (b : Bool) → is (Reactor m) (Reactor n) ≡ b → RiseBySlot t.max_conn (firsts (if b then f (Reactor m) ++ (s, u) ∷ [] else f (Reactor m)))
     at_rise m less true q = subst (RiseBySlot t.max_conn) (sym (collect-append first_of (f (Reactor m)) ((s, u) ∷ []))) (slot_rises t.max_conn (firsts (f (Reactor m))) s (l.rise m less) (λ r h e. below m less r h e))
@@ -147,15 +149,17 @@ free_keeps t words last a f p l n s u lt ns e g =
         (h.0, ((λ k. elim (freed r k) [ inl e ↦ absurd (let j : r % t.max_conn == s % t.max_conn ≡ true = eq_same (r % t.max_conn) (s % t.max_conn) (ap (λ w. w % t.max_conn) (sym e)) in let v : true ≡ false = sym j ∙ q in cc) | inr e ↦ h.1.0 e ]), h.1.1))
 
     at_back : (r : ℕ) → Has r (collect drew_in a) → (b : Bool) → r % t.max_conn == s % t.max_conn ≡ b → ((if b then (0, 0) else words (r % t.max_conn)).0 ≡ r) ⊎ IsFreed t (add f (Reactor n) (s, u)) r
-    at_back r has true q = elim (l.back r has)
-      [ inl i ↦ inr (subst (IsFreed t (add f (Reactor n) (s, u))) (sym e ∙ ap (λ w. (words w).0) (sym (eq_is (r % t.max_conn) (s % t.max_conn) q)) ∙ i) now)
-      | inr i ↦ inr (still r i) ]
+    at_back r has true q = elim (l.back r has) [
+      | inl i ↦ inr (subst (IsFreed t (add f (Reactor n) (s, u))) (sym e ∙ ap (λ w. (words w).0) (sym (eq_is (r % t.max_conn) (s % t.max_conn) q)) ∙ i) now)
+      | inr i ↦ inr (still r i)
+    ]
     at_back r has false q = elim (l.back r has) [ inl i ↦ inl i | inr i ↦ inr (still r i) ]
 
     at_frees : (m : ℕ) → m < t.reactor_num → (r v : ℕ) (b : Bool) → Has (r, v) (if b then f (Reactor m) ++ (s, u) ∷ [] else f (Reactor m)) → UidIs t p r v
-    at_frees m less r v true h = elim (has_split (r, v) (f (Reactor m)) ((s, u) ∷ []) h)
-      [ inl k ↦ l.frees m less r v k
-      | inr k ↦ (let q : (s, u) ≡ (r, v) = has_one (r, v) (s, u) k in subst (λ (w : ℕ × ℕ). UidIs t p w.0 w.1) q (subst (UidIs t p s) g here.1.1)) ]
+    at_frees m less r v true h = elim (has_split (r, v) (f (Reactor m)) ((s, u) ∷ []) h) [
+      | inl k ↦ l.frees m less r v k
+      | inr k ↦ (let q : (s, u) ≡ (r, v) = has_one (r, v) (s, u) k in subst (λ (w : ℕ × ℕ). UidIs t p w.0 w.1) q (subst (UidIs t p s) g here.1.1))
+    ]
     at_frees m less r v false h = l.frees m less r v h
 
 -- a claim
@@ -170,9 +174,10 @@ claim_laws : (t : Terms) (words : ℕ → ℕ × ℕ) (last : ℕ) (a : List (�
 claim_laws t words last a f p k ip c l h =
     let low : last_all t.max_conn t.session_last a < 2 ^ 32 = claims_last t.max_conn t.session_last [] a k.claims in
     let q = claimed_is t.max_conn words last (collect drew_in a) c l (λ n ne. (let d = slot_drawn t words last a f p k (n % t.max_conn) (words (n % t.max_conn)).0 refl ne in ((words (n % t.max_conn)).0, (d.0, d.1)))) h in
-    let less : last_then t.max_conn last c < 2 ^ 32 = subst (λ w. w < 2 ^ 32) q.1.0 q.1.1 in
-    (claims_more t.max_conn t.session_last [] a (ip, c) k.claims (subst (λ w. IsClaimed t.max_conn w (collect drew_in a) c) k.last_is q.0) (subst (λ w. last_then t.max_conn w c < 2 ^ 32) k.last_is less),
-      (q.1.0 ∙ ap (λ w. last_then t.max_conn w c) k.last_is ∙ sym (last_more t.max_conn t.session_last a (ip, c)), subst (λ w. w < 2 ^ 32) (sym k.last_is) low))
+    let less : last_then t.max_conn last c < 2 ^ 32 = subst (λ w. w < 2 ^ 32) q.1.0 q.1.1 in (
+      claims_more t.max_conn t.session_last [] a (ip, c) k.claims (subst (λ w. IsClaimed t.max_conn w (collect drew_in a) c) k.last_is q.0) (subst (λ w. last_then t.max_conn w c < 2 ^ 32) k.last_is less),
+      (q.1.0 ∙ ap (λ w. last_then t.max_conn w c) k.last_is ∙ sym (last_more t.max_conn t.session_last a (ip, c)), subst (λ w. w < 2 ^ 32) (sym k.last_is) low),
+    )
 
 -- without a number
 none_keeps : (t : Terms) (words : ℕ → ℕ × ℕ) (last : ℕ) (a : List (ℕ × Claim)) (f p : ActorId → List (ℕ × ℕ)) → BookLaw t words last a f p → (ip : ℕ) (c : Claim) (l : ℕ) → drew c ≡ [] → last ≤ l → IsClaims t.max_conn t.session_last [] (a ++ (ip, c) ∷ []) → l ≡ last_all t.max_conn t.session_last (a ++ (ip, c) ∷ []) → BookLaw t words l (a ++ (ip, c) ∷ []) f p
@@ -226,9 +231,10 @@ drew_keeps t words last a f p k ip s lt free claims is =
     at_held r nr false q i = let h = k.held r nr i in (drawn_more a (ip, Drew s) r h.0, h.1)
 
     old_back : (r : ℕ) → Has r (collect drew_in a) → (b : Bool) → r % t.max_conn == s % t.max_conn ≡ b → ((if b then (s, 0) else words (r % t.max_conn)).0 ≡ r) ⊎ IsFreed t f r
-    old_back r has true q = elim (k.back r has)
-      [ inl i ↦ absurd ((each_has (λ w. (¬ (w ≡ 0)) × (w ≤ last)) (collect drew_in a) r k.low has).0 (sym i ∙ ap (λ w. (words w).0) (eq_is (r % t.max_conn) (s % t.max_conn) q) ∙ free))
-      | inr i ↦ inr i ]
+    old_back r has true q = elim (k.back r has) [
+      | inl i ↦ absurd ((each_has (λ w. (¬ (w ≡ 0)) × (w ≤ last)) (collect drew_in a) r k.low has).0 (sym i ∙ ap (λ w. (words w).0) (eq_is (r % t.max_conn) (s % t.max_conn) q) ∙ free))
+      | inr i ↦ inr i
+    ]
     old_back r has false q = k.back r has
 
     new_back : (b : Bool) → s % t.max_conn == s % t.max_conn ≡ b → ((if b then (s, 0) else words (s % t.max_conn)).0 ≡ s) ⊎ IsFreed t f s
@@ -239,27 +245,32 @@ drew_keeps t words last a f p k ip s lt free claims is =
     low_of r h = each_has (λ w. (¬ (w ≡ 0)) × (w ≤ last)) (collect drew_in a) r k.low h
 
     at_again : (r v : ℕ) → Has r (collect drew_in a ++ s ∷ []) → Has v (collect drew_in a ++ s ∷ []) → r < v → r % t.max_conn ≡ v % t.max_conn → IsFreed t f r
-    at_again r v hr hv less e = elim (has_split r (collect drew_in a) (s ∷ []) hr)
-      [ inl i ↦ elim (has_split v (collect drew_in a) (s ∷ []) hv)
-          [ inl j ↦ k.again r v i j less e
-          | inr j ↦ elim (k.back r i)
-              [ inl q ↦ absurd ((low_of r i).0 (sym q ∙ ap (λ w. (words w).0) (e ∙ ap (λ w. w % t.max_conn) (sym (has_one v s j))) ∙ free))
-              | inr q ↦ q ] ]
-      | inr i ↦ absurd (let q : s ≡ r = has_one r s i in elim (has_split v (collect drew_in a) (s ∷ []) hv)
-          [ inl j ↦ (let b : v ≤ last = (low_of v j).1 in absurd (omega arith))
-          | inr j ↦ (let b : s ≡ v = has_one v s j in absurd (omega arith)) ]) ]
+    at_again r v hr hv less e = elim (has_split r (collect drew_in a) (s ∷ []) hr) [
+      | inl i ↦ elim (has_split v (collect drew_in a) (s ∷ []) hv) [
+        | inl j ↦ k.again r v i j less e
+        | inr j ↦ elim (k.back r i) [
+          | inl q ↦ absurd ((low_of r i).0 (sym q ∙ ap (λ w. (words w).0) (e ∙ ap (λ w. w % t.max_conn) (sym (has_one v s j))) ∙ free))
+          | inr q ↦ q
+        ]
+      ]
+      | inr i ↦ absurd (let q : s ≡ r = has_one r s i in elim (has_split v (collect drew_in a) (s ∷ []) hv) [
+        | inl j ↦ (let b : v ≤ last = (low_of v j).1 in absurd (omega arith))
+        | inr j ↦ (let b : s ≡ v = has_one v s j in absurd (omega arith))
+      ])
+    ]
 
     at_back : (r : ℕ) → Has r (collect drew_in a ++ s ∷ []) → ((set words (s % t.max_conn) (s, 0) (r % t.max_conn)).0 ≡ r) ⊎ IsFreed t f r
-    at_back r has = elim (has_split r (collect drew_in a) (s ∷ []) has)
-      [ inl h ↦ old_back r h (r % t.max_conn == s % t.max_conn) refl
-      | inr h ↦ subst (λ w. ((set words (s % t.max_conn) (s, 0) (w % t.max_conn)).0 ≡ w) ⊎ IsFreed t f w) (has_one r s h) (new_back (s % t.max_conn == s % t.max_conn) refl) ]
+    at_back r has = elim (has_split r (collect drew_in a) (s ∷ []) has) [
+      | inl h ↦ old_back r h (r % t.max_conn == s % t.max_conn) refl
+      | inr h ↦ subst (λ w. ((set words (s % t.max_conn) (s, 0) (w % t.max_conn)).0 ≡ w) ⊎ IsFreed t f w) (has_one r s h) (new_back (s % t.max_conn == s % t.max_conn) refl)
+    ]
 
 claim_by_kind : (t : Terms) (words : ℕ → ℕ × ℕ) (last : ℕ) (a : List (ℕ × Claim)) (f p : ActorId → List (ℕ × ℕ)) → BookLaw t words last a f p → (ip : ℕ) (c : Claim) (l : ℕ) → Tried t.max_conn words t.max_conn last c l → BookLaw t (words_by t.max_conn words c) l (a ++ (ip, c) ∷ []) f p
 claim_by_kind t words last a f p k ip (Drew s) l h =
     let q = claim_laws t words last a f p k ip (Drew s) l h in
     let e : s ≡ l = sym h.1.1.1.1.1 in
     subst (λ w. BookLaw t (set words (s % t.max_conn) (s, 0)) w (a ++ (ip, Drew s) ∷ []) f p) e
-        (drew_keeps t words last a f p k ip s h.0 h.1.1.1.1.0 q.0 (e ∙ q.1.0))
+    (drew_keeps t words last a f p k ip s h.0 h.1.1.1.1.0 q.0 (e ∙ q.1.0))
 claim_by_kind t words last a f p k ip Full l h =
     let q = claim_laws t words last a f p k ip Full l h in
     none_keeps t words last a f p k ip Full l refl (let e : l ≡ last + t.max_conn = h.1.0 in omega arith) q.0 q.1.0
@@ -270,4 +281,4 @@ claim_by_kind t words last a f p k ip Spent l h =
 pub claim_keeps : (t : Terms) (words : ℕ → ℕ × ℕ) (last : ℕ) (a : List (ℕ × Claim)) (f p : ActorId → List (ℕ × ℕ)) → BookLaw t words last a f p → (ip : ℕ) → let r = claim_by t.max_conn words t.max_conn last in BookLaw t (words_by t.max_conn words r.0) r.1 (a ++ (ip, r.0) ∷ []) f p
 claim_keeps t words last a f p k ip =
     claim_by_kind t words last a f p k ip (claim_by t.max_conn words t.max_conn last).0 (claim_by t.max_conn words t.max_conn last).1
-        (tried t.max_conn words t.max_conn last (subst (λ w. w < 2 ^ 32) (sym k.last_is) (claims_last t.max_conn t.session_last [] a k.claims)))
+    (tried t.max_conn words t.max_conn last (subst (λ w. w < 2 ^ 32) (sym k.last_is) (claims_last t.max_conn t.session_last [] a k.claims)))

@@ -55,11 +55,12 @@ can_free : (t : Terms) (legal : List Ran → Type 0) (p : Ports) (dids : ActorId
 can_free t legal p dids h y mine e (Frees s u) ds f = elim (h.words.book.back s f.drawn.0) [ inl q ↦ q | inr i ↦ absurd (bad i) ]
   where
     bad : IsFreed t (all_in free_in dids) s → ⊥
-    bad (m, (lt, has)) = elim (bool_cases (is (Reactor m) y))
-      [ inl q ↦ distinct_apart (firsts (collect free_in mine)) (firsts (collect free_in ds)) s
+    bad (m, (lt, has)) = elim (bool_cases (is (Reactor m) y)) [
+      | inl q ↦ distinct_apart (firsts (collect free_in mine)) (firsts (collect free_in ds)) s
           (subst Distinct (ap firsts (collect-append free_in mine (Frees s u ∷ ds)) ∙ collect-append first_of (collect free_in mine) (collect free_in (Frees s u ∷ ds))) (f.once (λ i. absurd (cc))))
           (subst (λ (x : List Did). Has s (firsts (collect free_in x))) (ap (λ (z : ActorId). dids z) (is_same (Reactor m) y q) ∙ e) has)
-      | inr q ↦ f.alone.0 m lt (λ i. absurd (let k : true ≡ false = sym (is_refl (Reactor m)) ∙ ap (λ (z : ActorId). is (Reactor m) z) i ∙ q in cc)) has ]
+      | inr q ↦ f.alone.0 m lt (λ i. absurd (let k : true ≡ false = sym (is_refl (Reactor m)) ∙ ap (λ (z : ActorId). is (Reactor m) z) i ∙ q in cc)) has
+    ]
 can_free t legal p dids h y mine e (Accepts ip c) ds f = tt
 can_free t legal p dids h y mine e NoLink ds f = tt
 can_free t legal p dids h y mine e NetOver ds f = tt
@@ -108,3 +109,12 @@ added_all dids y (d ∷ ds) z = added_all (add dids y d) y ds z ∙ pick (is z y
 
 pub calls_keep : (t : Terms) (legal : List Ran → Type 0) (p : Ports) (dids : ActorId → List Did) → PortsLaw t legal p dids → (y : ActorId) (ds : List Did) → Each (MayDo t y) ds → AllAnswer t legal p y ds → MayFree t dids y (dids y) ds → PortsLaw t legal (all_ported t p y ds) (add_all dids y ds)
 calls_keep t legal p dids h y ds may ans f = subst (PortsLaw t legal (all_ported t p y ds)) (fun_ext (added_all dids y ds)) (many_calls t legal p dids h y (dids y) refl ds may ans f)
+
+-- calls and further calls
+pub answers_append : (t : Terms) (legal : List Ran → Type 0) (p : Ports) (y : ActorId) (xs ys : List Did) → AllAnswer t legal p y xs → AllAnswer t legal (all_ported t p y xs) y ys → AllAnswer t legal p y (xs ++ ys)
+answers_append t legal p y [] ys h k = k
+answers_append t legal p y (x ∷ xs) ys h k = (h.0, answers_append t legal (ported t p y x) y xs ys h.1 k)
+
+pub ported_append : (t : Terms) (p : Ports) (y : ActorId) (xs ys : List Did) → all_ported t p y (xs ++ ys) ≡ all_ported t (all_ported t p y xs) y ys
+ported_append t p y [] ys = refl
+ported_append t p y (x ∷ xs) ys = ported_append t (ported t p y x) y xs ys

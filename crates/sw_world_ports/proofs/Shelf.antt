@@ -54,9 +54,10 @@ place_keeps t legal history seat spent h y x hand left ok =
       rise = frame y (λ b z. Rises (places (if b then seat z ++ (n, x) ∷ [] else seat z)))
           (subst Rises (sym (places_more y)) (rises_last (places (seat y)) n (below y) (h.rise y))) h.rise;
       once = λ a b ne. apart a b ne (is a y) refl (is b y) refl;
-      all = λ k lt. elim (cases_lt k (length history))
-        [ inl less ↦ (let r = h.all k less in (r.0, (r.1.0, frame y (λ b z. Has k (places (seat z)) → Has k (places (if b then seat z ++ (n, x) ∷ [] else seat z))) (λ i. subst (Has k) (sym (places_more y)) (has_left k (places (seat y)) (n ∷ []) i)) (λ z i. i) r.0 r.1.1)))
-        | inr ge ↦ (let e : n ≡ k = (let q : length (history ++ x ∷ []) ≡ length history + 1 = length_append history (x ∷ []) in omega arith) in (y, (hand, now k e (is y y) (is_refl y)))) ];
+      all = λ k lt. elim (cases_lt k (length history)) [
+        | inl less ↦ (let r = h.all k less in (r.0, (r.1.0, frame y (λ b z. Has k (places (seat z)) → Has k (places (if b then seat z ++ (n, x) ∷ [] else seat z))) (λ i. subst (Has k) (sym (places_more y)) (has_left k (places (seat y)) (n ∷ []) i)) (λ z i. i) r.0 r.1.1)))
+        | inr ge ↦ (let e : n ≡ k = (let q : length (history ++ x ∷ []) ≡ length history + 1 = length_append history (x ∷ []) in omega arith) in (y, (hand, now k e (is y y) (is_refl y))))
+      ];
       none_left = λ z. each_more (λ k. (k ≡ t.table_last_call) × (length history ≡ k)) (λ k. (k ≡ t.table_last_call) × (length (history ++ x ∷ []) ≡ k)) (spent z) (λ k q. absurd (let a : k ≡ t.table_last_call = q.0 in let b : length history ≡ k = q.1 in omega arith)) (h.none_left z);
     }
   where
@@ -80,10 +81,10 @@ place_keeps t legal history seat spent h y x hand left ok =
     apart a b ne true i true j = absurd (ne (is_same a y i ∙ sym (is_same b y j)))
     apart a b ne true i false j =
         subst (Each (λ k. Each (λ m. ¬ (k ≡ m)) (places (seat b)))) (sym (places_more a))
-            (each_append (λ k. Each (λ m. ¬ (k ≡ m)) (places (seat b))) (places (seat a)) (length history ∷ []) (h.once a b ne) (each_more (λ m. m < length history) (λ m. ¬ (length history ≡ m)) (places (seat b)) (λ m lt e. absurd (omega arith)) (below b), tt))
+        (each_append (λ k. Each (λ m. ¬ (k ≡ m)) (places (seat b))) (places (seat a)) (length history ∷ []) (h.once a b ne) (each_more (λ m. m < length history) (λ m. ¬ (length history ≡ m)) (places (seat b)) (λ m lt e. absurd (omega arith)) (below b), tt))
     apart a b ne false i true j =
         subst (λ (ns : List ℕ). Each (λ k. Each (λ m. ¬ (k ≡ m)) ns) (places (seat a))) (sym (places_more b))
-            (both (places (seat a)) (h.once a b ne) (below a))
+        (both (places (seat a)) (h.once a b ne) (below a))
       where
         both : (ks : List ℕ) → Each (λ k. Each (λ m. ¬ (k ≡ m)) (places (seat b))) ks → Each (λ m. m < length history) ks → Each (λ k. Each (λ m. ¬ (k ≡ m)) (places (seat b) ++ length history ∷ [])) ks
         both [] u v = tt
@@ -110,7 +111,7 @@ spent_keeps t legal history seat spent h y n e q =
 refuse_keeps : (t : Terms) (legal : List Ran → Type 0) (p : Ports) (dids : ActorId → List Did) → ShelfLaw t legal p.table (all_in seat_in dids) (all_in spent_in dids) → (y : ActorId) (c : Call) (fault : CallFault) → RefusesIt t (length p.table) c fault → ShelfLaw t legal p.table (all_in seat_in (add dids y (TableRefuses c fault))) (all_in spent_in (add dids y (TableRefuses c fault)))
 refuse_keeps t legal p dids h y c (PlacesSpent n) r =
     subst (λ (f : ActorId → List (ℕ × Ran)). ShelfLaw t legal p.table f (all_in spent_in (add dids y (TableRefuses c (PlacesSpent n))))) (sym (collect_same_at seat_in dids y (TableRefuses c (PlacesSpent n)) refl))
-        (subst (ShelfLaw t legal p.table (all_in seat_in dids)) (sym (collect_one_at spent_in dids y (TableRefuses c (PlacesSpent n)) n refl)) (spent_keeps t legal p.table (all_in seat_in dids) (all_in spent_in dids) h y n r.1.0 r.1.1))
+    (subst (ShelfLaw t legal p.table (all_in seat_in dids)) (sym (collect_one_at spent_in dids y (TableRefuses c (PlacesSpent n)) n refl)) (spent_keeps t legal p.table (all_in seat_in dids) (all_in spent_in dids) h y n r.1.0 r.1.1))
 refuse_keeps t legal p dids h y c (Busy word seen) r = absurd r
 refuse_keeps t legal p dids h y c BadKey r = seats_still t legal p.table dids y (TableRefuses c BadKey) refl refl h
 refuse_keeps t legal p dids h y c NoColumn r = seats_still t legal p.table dids y (TableRefuses c NoColumn) refl refl h
@@ -121,8 +122,8 @@ refuse_keeps t legal p dids h y c Range r = seats_still t legal p.table dids y (
 pub shelf_keeps : (t : Terms) (legal : List Ran → Type 0) (p : Ports) (dids : ActorId → List Did) → ShelfLaw t legal p.table (all_in seat_in dids) (all_in spent_in dids) → (y : ActorId) (d : Did) → MayDo t y d → Answers t legal p y d → ShelfLaw t legal (ported t p y d).table (all_in seat_in (add dids y d)) (all_in spent_in (add dids y d))
 shelf_keeps t legal p dids h y (Tables at x) may ans =
     subst (λ (f : ActorId → List ℕ). ShelfLaw t legal (p.table ++ x ∷ []) (all_in seat_in (add dids y (Tables at x))) f) (sym (collect_same_at spent_in dids y (Tables at x) refl))
-        (subst (λ (f : ActorId → List (ℕ × Ran)). ShelfLaw t legal (p.table ++ x ∷ []) f (all_in spent_in dids)) (sym (collect_one_at seat_in dids y (Tables at x) (at, x) refl))
-            (subst (λ n. ShelfLaw t legal (p.table ++ x ∷ []) (add (all_in seat_in dids) y (n, x)) (all_in spent_in dids)) (sym ans.0) (place_keeps t legal p.table (all_in seat_in dids) (all_in spent_in dids) h y x may ans.1 ans.2)))
+    (subst (λ (f : ActorId → List (ℕ × Ran)). ShelfLaw t legal (p.table ++ x ∷ []) f (all_in spent_in dids)) (sym (collect_one_at seat_in dids y (Tables at x) (at, x) refl))
+    (subst (λ n. ShelfLaw t legal (p.table ++ x ∷ []) (add (all_in seat_in dids) y (n, x)) (all_in spent_in dids)) (sym ans.0) (place_keeps t legal p.table (all_in seat_in dids) (all_in spent_in dids) h y x may ans.1 ans.2)))
 shelf_keeps t legal p dids h y (TableRefuses c fault) may ans = refuse_keeps t legal p dids h y c fault ans
 shelf_keeps t legal p dids h y (Adds c) may ans = seats_still t legal p.table dids y (Adds c) refl refl h
 shelf_keeps t legal p dids h y (Sums c n) may ans = seats_still t legal p.table dids y (Sums c n) refl refl h

@@ -48,8 +48,8 @@ words_new t w last dids y d a f p ea ef ep book fa fp founds one =
           (subst (λ (x : ActorId → List (ℕ × ℕ)). BookLaw t w last a x (all_in pass_in (add dids y d))) (sym ef) (subst (λ (x : ActorId → List (ℕ × ℕ)). BookLaw t w last a f x) (sym ep) book));
       found = λ z. subst (λ (x : List (ℕ × Claim)). FoundLaw t x (all_in pass_in (add dids y d)) (add dids y d z)) (sym ea)
           (subst (λ (x : ActorId → List (ℕ × ℕ)). FoundLaw t a x (add dids y d z)) (sym ep)
-              (frame y (λ b x. FoundLaw t a p (if b then dids x ++ d ∷ [] else dids x))
-                  (found_more t a p (dids y) d (later y) one) later z));
+          (frame y (λ b x. FoundLaw t a p (if b then dids x ++ d ∷ [] else dids x))
+          (found_more t a p (dids y) d (later y) one) later z));
     }
   where
     later : (z : ActorId) → FoundLaw t a p (dids z)
@@ -59,7 +59,7 @@ words_new t w last dids y d a f p ea ef ep book fa fp founds one =
 words_still : (t : Terms) (w : ℕ → ℕ × ℕ) (last : ℕ) (dids : ActorId → List Did) (y : ActorId) (d : Did) → accept_in d ≡ [] → free_in d ≡ [] → pass_in d ≡ [] → WordsLaw t w last dids → FoundLaw t (collect accept_in (dids Door)) (all_in pass_in dids) (d ∷ []) → WordsLaw t w last (add dids y d)
 words_still t w last dids y d ea ef ep h one =
     words_new t w last dids y d (collect accept_in (dids Door)) (all_in free_in dids) (all_in pass_in dids)
-        (ap (λ (g : ActorId → List (ℕ × Claim)). g Door) (collect_same_at accept_in dids y d ea)) (collect_same_at free_in dids y d ef) (collect_same_at pass_in dids y d ep) h.book (λ s k. k) (λ s u k. k) h.found one
+    (ap (λ (g : ActorId → List (ℕ × Claim)). g Door) (collect_same_at accept_in dids y d ea)) (collect_same_at free_in dids y d ef) (collect_same_at pass_in dids y d ep) h.book (λ s k. k) (λ s u k. k) h.found one
 
 -- a word that shows the session, and one that shows another
 sees_live : (t : Terms) (w : ℕ → ℕ × ℕ) (last : ℕ) (dids : ActorId → List Did) → WordsLaw t w last dids → (s u : ℕ) → ¬ (s ≡ 0) → w (s % t.max_conn) ≡ (s, u) → Has s (collect drew_in (collect accept_in (dids Door))) × ((u ≡ 0) ⊎ OneBind t (all_in pass_in dids) s u)
@@ -107,10 +107,10 @@ binds_keeps t w last dids h y s u Granted hand ns e =
     let p : ActorId → List (ℕ × ℕ) = all_in pass_in dids in
     let k = sees_live t w last dids h s 0 ns e.1 in
     words_new t (bound_by t.max_conn w s u Granted) last dids y (Binds s u Granted) a (all_in free_in dids) (add p y (s, u))
-        (ap (λ (g : ActorId → List (ℕ × Claim)). g Door) (collect_same_at accept_in dids y (Binds s u Granted) refl)) (collect_same_at free_in dids y (Binds s u Granted) refl) (collect_one_at pass_in dids y (Binds s u Granted) (s, u) refl)
-        (bind_keeps t w last a (all_in free_in dids) p h.book y s u hand ns e.0 e.1) (λ r has. has)
-        (λ r v o. one_moved t p (add p y (s, u)) r v (bind_other p y s u r (λ q. unbound r v q o (h.book.held s ns (ap (λ (x : ℕ × ℕ). x.0) e.1)).1.1)) o)
-        h.found (record { lives = (k.0, tt); others = tt; found = tt; had = tt })
+    (ap (λ (g : ActorId → List (ℕ × Claim)). g Door) (collect_same_at accept_in dids y (Binds s u Granted) refl)) (collect_same_at free_in dids y (Binds s u Granted) refl) (collect_one_at pass_in dids y (Binds s u Granted) (s, u) refl)
+    (bind_keeps t w last a (all_in free_in dids) p h.book y s u hand ns e.0 e.1) (λ r has. has)
+    (λ r v o. one_moved t p (add p y (s, u)) r v (bind_other p y s u r (λ q. unbound r v q o (h.book.held s ns (ap (λ (x : ℕ × ℕ). x.0) e.1)).1.1)) o)
+    h.found (record { lives = (k.0, tt); others = tt; found = tt; had = tt })
   where
     -- a session that was bound isn't bound again
     unbound : (r v : ℕ) → s ≡ r → OneBind t (all_in pass_in dids) r v → UidIs t (all_in pass_in dids) s (w (s % t.max_conn)).1 → ⊥
@@ -145,17 +145,17 @@ call_keeps t legal p dids h y (Accepts ip c) may ans can =
     let e : r.0 ≡ c = ans.1 in
     let there : collect accept_in (add dids y (Accepts ip c) Door) ≡ a ++ (ip, c) ∷ [] = subst (λ (z : ActorId). collect accept_in (add dids z (Accepts ip c) Door) ≡ a ++ (ip, c) ∷ []) (sym may) (collect-append accept_in (dids Door) (Accepts ip c ∷ [])) in
     words_new t (words_by t.max_conn p.words c) r.1 dids y (Accepts ip c) (a ++ (ip, c) ∷ []) (all_in free_in dids) (all_in pass_in dids) there (collect_same_at free_in dids y (Accepts ip c) refl) (collect_same_at pass_in dids y (Accepts ip c) refl)
-        (subst (λ (x : Claim). BookLaw t (words_by t.max_conn p.words x) r.1 (a ++ (ip, x) ∷ []) (all_in free_in dids) (all_in pass_in dids)) e (claim_keeps t p.words p.last a (all_in free_in dids) (all_in pass_in dids) h.book ip))
-        (λ s k. drawn_more a (ip, c) s k) (λ s u k. k) h.found (nothing t (a ++ (ip, c) ∷ []) (all_in pass_in dids) (Accepts ip c) refl refl refl refl)
+    (subst (λ (x : Claim). BookLaw t (words_by t.max_conn p.words x) r.1 (a ++ (ip, x) ∷ []) (all_in free_in dids) (all_in pass_in dids)) e (claim_keeps t p.words p.last a (all_in free_in dids) (all_in pass_in dids) h.book ip))
+    (λ s k. drawn_more a (ip, c) s k) (λ s u k. k) h.found (nothing t (a ++ (ip, c) ∷ []) (all_in pass_in dids) (Accepts ip c) refl refl refl refl)
 call_keeps t legal p dids h y (Looks s x) may ans can = look_keeps t p.words p.last dids h y s x ans.0 ans.1
 call_keeps t legal p dids h y (Binds s u x) may ans can = binds_keeps t p.words p.last dids h y s u x may ans.0 ans.1
 call_keeps t legal p dids h y (Frees s u) may ans can =
     let a : List (ℕ × Claim) = collect accept_in (dids Door) in
     let f : ActorId → List (ℕ × ℕ) = all_in free_in dids in
     words_new t (set p.words (s % t.max_conn) (0, 0)) p.last dids y (Frees s u) a (add f y (s, u)) (all_in pass_in dids)
-        (ap (λ (g : ActorId → List (ℕ × Claim)). g Door) (collect_same_at accept_in dids y (Frees s u) refl)) (collect_one_at free_in dids y (Frees s u) (s, u) refl) (collect_same_at pass_in dids y (Frees s u) refl)
-        (subst (λ (z : ActorId). BookLaw t (set p.words (s % t.max_conn) (0, 0)) p.last a (add f z (s, u)) (all_in pass_in dids)) (sym may.1.1) (free_keeps t p.words p.last a f (all_in pass_in dids) h.book may.0 s u may.1.0 ans.0 can ans.1))
-        (λ r k. k) (λ r v k. k) h.found (nothing t a (all_in pass_in dids) (Frees s u) refl refl refl refl)
+    (ap (λ (g : ActorId → List (ℕ × Claim)). g Door) (collect_same_at accept_in dids y (Frees s u) refl)) (collect_one_at free_in dids y (Frees s u) (s, u) refl) (collect_same_at pass_in dids y (Frees s u) refl)
+    (subst (λ (z : ActorId). BookLaw t (set p.words (s % t.max_conn) (0, 0)) p.last a (add f z (s, u)) (all_in pass_in dids)) (sym may.1.1) (free_keeps t p.words p.last a f (all_in pass_in dids) h.book may.0 s u may.1.0 ans.0 can ans.1))
+    (λ r k. k) (λ r v k. k) h.found (nothing t a (all_in pass_in dids) (Frees s u) refl refl refl refl)
 call_keeps t legal p dids h y NoLink may ans can = words_still t p.words p.last dids y NoLink refl refl refl h (nothing t (collect accept_in (dids Door)) (all_in pass_in dids) NoLink refl refl refl refl)
 call_keeps t legal p dids h y NetOver may ans can = words_still t p.words p.last dids y NetOver refl refl refl h (nothing t (collect accept_in (dids Door)) (all_in pass_in dids) NetOver refl refl refl refl)
 call_keeps t legal p dids h y (Marks b) may ans can = words_still t p.words p.last dids y (Marks b) refl refl refl h (nothing t (collect accept_in (dids Door)) (all_in pass_in dids) (Marks b) refl refl refl refl)
