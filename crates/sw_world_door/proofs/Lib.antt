@@ -1,0 +1,4 @@
+pub mod Doors
+pub mod Family
+pub mod Resting
+pub mod Played

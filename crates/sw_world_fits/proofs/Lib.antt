@@ -1,0 +1,4 @@
+pub mod Book
+pub mod Net
+pub mod Table
+pub mod Board

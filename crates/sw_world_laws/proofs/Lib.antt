@@ -1,0 +1,15 @@
+pub mod Locals
+pub mod Places
+pub mod Marks
+pub mod Turns
+pub mod Moves
+pub mod Reached
+pub mod Joined
+pub mod Account
+pub mod Shares
+pub mod Counts
+pub mod Rounds
+pub mod Outside
+pub mod Right
+pub mod Seen
+pub mod Mix

@@ -1,0 +1,10 @@
+pub mod Turns
+pub mod Shows
+pub mod Done
+pub mod Actors
+pub mod World
+pub mod History
+pub mod Marks
+pub mod Law
+pub mod Account
+pub mod Runs

@@ -1,0 +1,11 @@
+pub mod Frame
+pub mod Haves
+pub mod Counters
+pub mod Claims
+pub mod Binds
+pub mod Uids
+pub mod Book
+pub mod Words
+pub mod Board
+pub mod Shelf
+pub mod Calls
