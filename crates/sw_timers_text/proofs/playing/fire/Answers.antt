@@ -1,4 +1,4 @@
-use Rattle.std.proofs.Common.{◌+◌, List, ℕ, Option, arith, subst}
+use Rattle.std.proofs.Common.{◌+◌, ℕ, Option, arith, subst}
 use Rattle.std.specs.Prelude.{string_bytes}
 use Rattle.sw_timers.specs.Due.{IsDue}
 use Rattle.sw_timers_text.specs.Prints.{fire_text, FiresJust}
