@@ -60,7 +60,7 @@ AfterRead wrote reads.Failed r a q = (a ≡ ask.Nothing) × (q ≡ moved r)
 abbrev pub ReadsNext : {L K : Type 0} → (L → ℕ → Read → L → Type 0) → Reactor L K → LinkRead → Reactor L K → Type 0
 ReadsNext gives r l m =
     AtLine r.line r.at (λ c d. ReadsBy gives (length r.buffer.items) c (read_of l m.buffer.items) d) m.line
-    × (m ≡ record r { line = m.line; buffer = m.buffer })
+    × (m ≡ record r { line = m.line; buffer = m.buffer }) × (length m.buffer.items ≡ length r.buffer.items)
 
 abbrev pub ReadsMore : {L K : Type 0} → (L → ℕ → Read → L → Type 0) → Option LinkWrite → Reactor L K → Asks L K → Reactor L K → Type 0
 ReadsMore {L} {K} gives wrote r a q = (l : LinkRead) × ((m : Reactor L K) × (ReadsNext gives r l m × AfterRead wrote l m a q))

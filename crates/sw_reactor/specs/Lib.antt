@@ -4,3 +4,4 @@ pub mod Turn
 pub mod Aims
 pub mod Leave
 pub mod Serving
+pub mod Ready

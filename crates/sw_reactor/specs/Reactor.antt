@@ -1,6 +1,5 @@
 -- The reactor's state, and what settling does to it.
 use Rattle.std.specs.Prelude.{◌≡◌, ℕ, ◌+◌, ◌-◌, ◌%◌, ◌^◌, ◌==◌, Bool, true, false, nat_lt, if◌then◌else◌, List, [], ◌∷◌, ◌++◌, length, map, remove, Option, Some, None}
-use Rattle.std.specs.Bool.{MatchBool}
 use Rattle.sw_data.specs.declared.ended.Ended.{Ended}
 use Rattle.sw_data.specs.declared.events.Event.{Event}
 use Rattle.sw_data.specs.declared.messages.Msg.{Msg}
@@ -44,12 +43,9 @@ TakesOne r one q = TakesFirst r r.line.conns one q
 abbrev pub OnLine : {L K : Type 0} → Reactor L K → (Lined L K → Lined L K → Type 0) → Reactor L K → Type 0
 OnLine r P q = P r.line q.line × (q ≡ record r { line = q.line })
 
--- a link joins the end, where there is room: there always is, since descriptors differ
+-- a link joins the end
 abbrev pub Joins : {L K : Type 0} → Framing → L → ℕ → K → ℕ → Lined L K → Lined L K → Type 0
-Joins {L} {K} framing link ip ticket s l m =
-    MatchBool (nat_lt (length l.conns) l.room)
-    ((c : Conn L K) × (IsFresh framing link ip ticket s c × (m ≡ record l { conns = l.conns ++ c ∷ [] })))
-    (m ≡ l)
+Joins {L} {K} framing link ip ticket s l m = (c : Conn L K) × (IsFresh framing link ip ticket s c × (m ≡ record l { conns = l.conns ++ c ∷ [] }))
 
 -- what a taken message makes of it
 abbrev pub SettlesMsg : {L K : Type 0} → (K → ℕ) → Reactor L K → Msg L K → Reactor L K → Type 0

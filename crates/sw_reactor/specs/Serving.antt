@@ -41,6 +41,19 @@ pub record Ports (L K B C E : Type 0) : Type 1 where
   pub sizes : C → Sizes
   pub puts : E → L → Ended → Bool → E → Type 0
 
+abbrev pub ports_of : {L K B C E : Type 0} → (K → ℕ) → (L → ℕ → Read → L → Type 0) → (L → List ℕ → LinkWrite → L → Type 0) → (B → ℕ → Word → B → Type 0) → (B → K → ℕ → B → Type 0) → (C → List BoardStep → C → Type 0) → (C → Sizes) → (E → L → Ended → Bool → E → Type 0) → Ports L K B C E
+ports_of number reads writes looks releases goes sizes puts =
+    record {
+      number = number;
+      reads = reads;
+      writes = writes;
+      looks = looks;
+      releases = releases;
+      goes = goes;
+      sizes = sizes;
+      puts = puts;
+    }
+
 -- the worker of an event: its home in modes 2 and 4, its side in mode 5, and else the one whose turn it is or that is idle
 abbrev pub Aims : {L K B C : Type 0} → (B → ℕ → Word → B → Type 0) → (C → List BoardStep → C → Type 0) → (C → Sizes) → Reactor L K → B → C → ℕ → Reactor L K → B → C → Type 0
 Aims looks goes sizes r b o w q d u =
@@ -57,13 +70,14 @@ counted kinds.Connect r = r
 counted kinds.Closed r = r
 counted kinds.Other r = r
 
-abbrev pub Tells : {L K B C E : Type 0} → Ports L K B C E → Event → Reactor L K → B → C → Asks L K → Reactor L K → B → C → Type 0
-Tells {L} {K} p e r b o a q d u = (w : ℕ) × ((m : Reactor L K) × (Aims p.looks p.goes p.sizes r b o w m d u × Pushes w e (counted (kind_of e) m) a q))
+-- an event of the connection that is served goes to its worker
+abbrev pub Tells : {L K B C : Type 0} → (B → ℕ → Word → B → Type 0) → (C → List BoardStep → C → Type 0) → (C → Sizes) → Event → Reactor L K → B → C → Asks L K → Reactor L K → B → C → Type 0
+Tells {L} {K} looks goes sizes e r b o a q d u = (w : ℕ) × ((m : Reactor L K) × (Aims looks goes sizes r b o w m d u × Pushes w e (counted (kind_of e) m) a q))
 
 -- what a step of the connection comes to
 abbrev pub Steps : {L K B C E : Type 0} → Ports L K B C E → Step → Option LinkWrite → Reactor L K → B → C → E → Asks L K → Reactor L K → B → C → E → Type 0
 Steps p (chosen.Again w e) wrote r b o f a q d u g = Pushes w e r a q × (d ≡ b) × (u ≡ o) × (g ≡ f)
-Steps p (chosen.Tell e) wrote r b o f a q d u g = Tells p e r b o a q d u × (g ≡ f)
+Steps p (chosen.Tell e) wrote r b o f a q d u g = Tells p.looks p.goes p.sizes e r b o a q d u × (g ≡ f)
 Steps p chosen.Read wrote r b o f a q d u g = ReadsMore p.reads wrote r a q × (d ≡ b) × (u ≡ o) × (g ≡ f)
 Steps p chosen.Moved wrote r b o f a q d u g = (a ≡ ask.Nothing) × (q ≡ moved r) × (d ≡ b) × (u ≡ o) × (g ≡ f)
 Steps p chosen.Stay wrote r b o f a q d u g = Stays wrote r a q × (d ≡ b) × (u ≡ o) × (g ≡ f)

@@ -24,10 +24,11 @@ fn counts_asked(asked: Asked) -> bool
 }
 
 impl<L: Link + Drop, K: Ticketed + Drop> Reactor<L, K> {
+    ghost use Rattle.sw_port_book.specs.Answers.{Keeps};
     ghost use Rattle.sw_reactor.specs.Serving.{Aims, counted, counts};
 
     /// Whether a packet was pushed.
-    fn counts(&self, got: &Got<Msg<L, K>>) -> bool
+    pub(crate) fn counts(&self, got: &Got<Msg<L, K>>) -> bool
         ensures { result ≡ counts self.now got.now }
     {
         match got {
@@ -41,12 +42,14 @@ impl<L: Link + Drop, K: Ticketed + Drop> Reactor<L, K> {
     }
 
     /// The worker of the event that comes next of the connection that is served.
-    fn aim<B: Book, C: Board>(&mut self, book: &mut B, board: &mut C) -> u32
+    pub(crate) fn aim<B: Book, C: Board>(&mut self, book: &mut B, board: &mut C) -> u32
         requires at { self.old.at < length self.old.line.conns }
         requires workers { 0 < self.old.terms.worker_num }
         requires slots { 0 < self.old.terms.max_conn }
         requires members { members Workers (C.sizes board.old) ≡ self.old.terms.worker_num }
-        ensures { Aims B.look_finds C.goes C.sizes self.old book.old board.old result self.new book.new board.new }
+        ensures aims { Aims B.look_finds C.goes C.sizes self.old book.old board.old result self.new book.new board.new }
+        ensures kept { Keeps B.size B.holds book.old book.new }
+        ensures board { C.sizes board.new ≡ C.sizes board.old }
     {
         if self.terms.keeps() {
             self.aim_home()
@@ -58,7 +61,7 @@ impl<L: Link + Drop, K: Ticketed + Drop> Reactor<L, K> {
     }
 
     /// A packet counts for the turns of modes 1 and 3.
-    fn count_kind(&mut self, kind: Kind)
+    pub(crate) fn count_kind(&mut self, kind: Kind)
         requires { 0 < self.old.terms.worker_num }
         ensures { self.new ≡ counted kind self.old }
     {

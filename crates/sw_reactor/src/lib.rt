@@ -8,6 +8,7 @@ mod reactor;
 mod serve;
 mod settle;
 mod turn;
+mod turning;
 
 pub use line::Line;
 pub use reactor::{Asked, Reactor};

@@ -4,8 +4,10 @@ ghost use Rattle.std.specs.Prelude.{◌≡◌, ◌<◌, [], ℕ, length, nat_lt,
 use crate::line::Line;
 use std::alloc::Global;
 use sw_base::{OutOfMemory, Session};
-use sw_conn::{FitFraming, Kind, Terms};
+use sw_conn::{Kind, Terms};
 use sw_data::Ended;
+use sw_frame::FitFraming;
+use sw_port_book::Ticketed;
 
 /// What a reactor asked of the pipes last.
 #[derive(Clone, Copy, Debug, PartialEq, Eq)]
@@ -47,34 +49,7 @@ pub struct Reactor<L, K> {
 
 impl<L, K> Reactor<L, K> {
     ghost use Rattle.sw_conn.specs.Conn.{account, cause_of};
-    ghost use Rattle.sw_reactor.specs.Reactor.{IsStarted, TakesOne};
-
-    /// A reactor before its first turn, with room for all its connections, whose reads take at most `read_size` bytes.
-    pub fn new(
-        alloc: Global,
-        terms: Terms,
-        framing: FitFraming,
-        read_size: u32,
-    ) -> Result<Reactor<L, K>, OutOfMemory>
-        ensures { IfOk result (λ r. IsStarted terms framing read_size r) }
-    {
-        let buffer = vec![in alloc; 0u8; read_size as usize]?;
-        let line = Line::make(alloc, terms.max_conn)?;
-        Ok(Reactor {
-            terms,
-            framing,
-            buffer,
-            line,
-            at: 0,
-            asked: Asked::Nothing,
-            empty: false,
-            still: 0,
-            ends: 0,
-            given: 0,
-            turn: 0,
-            lost: false,
-        })
-    }
+    ghost use Rattle.sw_reactor.specs.Reactor.{TakesOne};
 
     /// Whether its ends gave a link back in one of its turns.
     pub fn lost(&self) -> bool
@@ -120,5 +95,41 @@ impl<L, K> Reactor<L, K> {
         let (link, ticket) = conn.into_parts();
         self.at = self.at.saturating_sub(1);
         Some((link, ended, ticket))
+    }
+}
+
+impl<L: Drop, K: Ticketed + Drop> Reactor<L, K> {
+    ghost use Rattle.sw_reactor.specs.Reactor.{IsStarted};
+    ghost use Rattle.sw_reactor.specs.Ready.{IsReady};
+
+    /// A reactor before its first turn, with room for all its connections, whose reads take at most `read_size` bytes.
+    pub fn new(
+        alloc: Global,
+        terms: Terms,
+        framing: FitFraming,
+        read_size: u32,
+    ) -> Result<Reactor<L, K>, OutOfMemory>
+        requires workers { 0 < terms.worker_num }
+        requires slots { 0 < terms.max_conn }
+        requires room { 0 < read_size }
+        ensures started { IfOk result (λ r. IsStarted terms framing read_size r) }
+        ensures ready { IfOk result (λ r. IsReady K.number r) }
+    {
+        let buffer = vec![in alloc; 0u8; read_size as usize]?;
+        let line = Line::make(alloc, terms.max_conn)?;
+        Ok(Reactor {
+            terms,
+            framing,
+            buffer,
+            line,
+            at: 0,
+            asked: Asked::Nothing,
+            empty: false,
+            still: 0,
+            ends: 0,
+            given: 0,
+            turn: 0,
+            lost: false,
+        })
     }
 }

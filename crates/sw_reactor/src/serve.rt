@@ -22,6 +22,7 @@ fn uid_of(look: Look) -> u32
 
 impl<L: Drop, K: Drop> Reactor<L, K> {
     ghost use Rattle.sw_conn.specs.Conn.{home};
+    ghost use Rattle.sw_port_book.specs.Answers.{Keeps};
     ghost use Rattle.sw_reactor.specs.Aims.{AimsSide, AimsIdle, next_turn};
 
     /// The worker of the connection that is served, in the modes that keep one.
@@ -39,7 +40,8 @@ impl<L: Drop, K: Drop> Reactor<L, K> {
         requires at { self.old.at < length self.old.line.conns }
         requires workers { 0 < self.old.terms.worker_num }
         requires slots { 0 < self.old.terms.max_conn }
-        ensures { AimsSide B.look_finds self.old book.old result self.new book.new }
+        ensures aims { AimsSide B.look_finds self.old book.old result self.new book.new }
+        ensures kept { Keeps B.size B.holds book.old book.new }
     {
         let look = book.look(self.line.get(self.at).session);
         self.line.see(self.at, uid_of(look));
@@ -50,7 +52,8 @@ impl<L: Drop, K: Drop> Reactor<L, K> {
     pub(crate) fn aim_idle<C: Board>(&self, board: &mut C) -> u32
         requires workers { 0 < self.now.terms.worker_num }
         requires members { members Workers (C.sizes board.old) ≡ self.now.terms.worker_num }
-        ensures { AimsIdle C.goes C.sizes self.now board.old result board.new }
+        ensures aims { AimsIdle C.goes C.sizes self.now board.old result board.new }
+        ensures board { C.sizes board.new ≡ C.sizes board.old }
     {
         let position = round(self.turn as u64, self.terms.worker_num);
         if self.terms.mode != 3 {

@@ -1,42 +1,38 @@
 //! Settling: what a reactor makes of what its last pipe call gave.
-ghost use Rattle.std.specs.Prelude.{◌≡◌, ◌<◌, Bool};
+ghost use Rattle.std.specs.Prelude.{◌≡◌, ◌<◌, [], ◌∷◌, ◌++◌, Bool};
 
-use crate::line::Line;
 use crate::reactor::{Asked, Reactor};
 use std::alloc::Global;
-use sw_conn::{Conn, FitFraming};
+use sw_conn::Conn;
 use sw_data::{Event, Got, Msg};
-use sw_port_book::Ticketed;
-
-impl<L: Drop, K: Ticketed + Drop> Line<L, K> {
-    ghost use Rattle.sw_reactor.specs.Reactor.{Joins};
-
-    /// A link joins the end, where there is room.
-    fn take_fresh(&mut self, alloc: Global, framing: &FitFraming, link: L, ip: u32, ticket: K)
-        ensures { Joins framing.now link ip ticket (K.number ticket) self.old self.new }
-    {
-        if self.has_room() {
-            let session = ticket.session();
-            let conn = Conn::new(alloc, framing, link, ip, ticket, session);
-            self.join(conn);
-        }
-    }
-}
+use sw_port_book::{Book, Ticketed};
 
 impl<L: Drop, K: Ticketed + Drop> Reactor<L, K> {
-    ghost use Rattle.sw_reactor.specs.Reactor.{Settles, SettlesMsg, SettlesPush, SettlesEvent, SettlesFull};
+    ghost use Rattle.sw_reactor.specs.Ready.{IsReady, AreApart, tickets, brought_by, with_brought};
+    ghost use Rattle.sw_reactor.specs.Reactor.{OnLine, Joins, Settles, SettlesMsg, SettlesPush, SettlesEvent, SettlesFull};
 
     /// Settles what the last pipe call gave: a message goes to the connection that it is for, what was pushed is noted, and
     /// what came back is held. A message that isn't one for a reactor is dropped, and so is one for a session without a
     /// connection.
-    pub fn settle(&mut self, alloc: Global, got: Got<Msg<L, K>>)
-        ensures { Settles K.number self.old got self.new }
+    pub fn settle<B: Book<Ticket = K>>(
+        &mut self,
+        alloc: Global,
+        got: Got<Msg<L, K>>,
+        book: &mut B,
+    )
+        requires ready { IsReady K.number self.old }
+        requires size { B.size book.old ≡ self.old.terms.max_conn }
+        requires apart { AreApart B.holds B.differ book.old (with_brought self.old got) }
+        ensures settles { Settles K.number self.old got self.new }
+        ensures ready { IsReady K.number self.new }
+        ensures apart { AreApart B.holds B.differ book.new (tickets self.new) }
+        ensures book { book.new ≡ book.old }
     {
         match got {
             Got::Start => {}
             Got::Took(message) => {
                 self.empty = false;
-                self.settle_message(alloc, message);
+                self.settle_message(alloc, message, book);
             }
             Got::Empty => self.empty = true,
             Got::Pushed => self.settle_push(self.asked),
@@ -45,13 +41,20 @@ impl<L: Drop, K: Ticketed + Drop> Reactor<L, K> {
         }
     }
 
-    fn settle_message(&mut self, alloc: Global, message: Msg<L, K>)
-        ensures { SettlesMsg K.number self.old message self.new }
+    fn settle_message<B: Book<Ticket = K>>(
+        &mut self,
+        alloc: Global,
+        message: Msg<L, K>,
+        book: &mut B,
+    )
+        requires ready { IsReady K.number self.old }
+        requires size { B.size book.old ≡ self.old.terms.max_conn }
+        requires apart { AreApart B.holds B.differ book.old (tickets self.old ++ brought_by message) }
+        ensures settles { SettlesMsg K.number self.old message self.new }
+        ensures book { book.new ≡ book.old }
     {
         match message {
-            Msg::Fresh(link, ip, ticket) => self
-                .line
-                .take_fresh(alloc, &self.framing, link, ip, ticket),
+            Msg::Fresh(link, ip, ticket) => self.take_fresh(alloc, link, ip, ticket, book),
             Msg::Send(session, bytes) => self.line.take_send(self.terms, session, bytes),
             Msg::Close(session) => self.line.take_close(session),
             Msg::Reset(session) => self.line.take_reset(session),
@@ -60,6 +63,28 @@ impl<L: Drop, K: Ticketed + Drop> Reactor<L, K> {
             Msg::Over(_) => {}
             Msg::NoMore => self.ends = self.ends.saturating_add(1),
         }
+    }
+
+    /// A link joins the end. Two tickets never have the same slot, so its slot is free.
+    fn take_fresh<B: Book<Ticket = K>>(
+        &mut self,
+        alloc: Global,
+        link: L,
+        ip: u32,
+        ticket: K,
+        book: &mut B,
+    )
+        requires ready { IsReady K.number self.old }
+        requires size { B.size book.old ≡ self.old.terms.max_conn }
+        requires apart { AreApart B.holds B.differ book.old (tickets self.old ++ ticket ∷ []) }
+        ensures joins { OnLine self.old (Joins self.old.framing link ip ticket (K.number ticket)) self.new }
+        ensures book { book.new ≡ book.old }
+    {
+        let mut ticket = ticket;
+        self.line.tell_apart(&mut ticket, book);
+        let session = ticket.session();
+        let conn = Conn::new(alloc, &self.framing, link, ip, ticket, session);
+        self.line.join(conn);
     }
 
     fn settle_push(&mut self, asked: Asked)

@@ -25,7 +25,8 @@ impl<L: Drop, K: Drop> Reactor<L, K> {
 
     /// Reads the stop word, where it is set stops each connection, and takes a message.
     pub(crate) fn take<C: Board>(&mut self, board: &mut C) -> Ask<Msg<L, K>>
-        ensures { Takes C.goes self.old board.old result self.new board.new }
+        ensures takes { Takes C.goes self.old board.old result self.new board.new }
+        ensures board { C.sizes board.new ≡ C.sizes board.old }
     {
         if board.stopped() {
             self.line.stop();
