@@ -1,1 +1,4 @@
-pub mod Places
+pub mod Keeping
+pub mod Slots
+pub mod Kept
+pub mod Apart

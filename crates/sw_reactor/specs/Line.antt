@@ -1,6 +1,7 @@
 -- The connections of a reactor in order of arrival, and what becomes of one of them.
 use Rattle.std.specs.Prelude.{◌≡◌, ◌<◌, ◌≤◌, ◌%◌, ℕ, suc, ◌==◌, if◌then◌else◌, List, [], ◌∷◌, Option, Some, None, length, map, slice_get, slice_set}
 use Rattle.sw_conn.specs.declared.conn.Conn.{Conn}
+use Rattle.sw_conn.specs.Conn.{stops}
 
 -- the connections, and how many there is room for
 pub record Lined (L K : Type 0) : Type 0 where
@@ -38,6 +39,19 @@ sessions_of {L} {K} conns = map (λ (c : Conn L K). c.session) conns
 -- no connection has the slot of this session
 abbrev pub IsFree : {L K : Type 0} → ℕ → Lined L K → Type 0
 IsFree {L} {K} s l = (k : ℕ) (c : Conn L K) → slice_get l.conns k ≡ Some c → ¬ (c.session % l.room ≡ s % l.room)
+
+-- the connection of this session is one of them, and its slot is this one
+pub record LivesAt {L K : Type 0} (s : ℕ) (l : Lined L K) (place : ℕ) : Type 0 where
+  pub slot : place ≡ s % l.room
+  pub at : ℕ
+  pub conn : Conn L K
+  pub there : slice_get l.conns at ≡ Some conn
+  pub own : conn.session ≡ s
+
+-- the connection in a slot stops, if there is one
+abbrev pub stops_in : {L K : Type 0} → Option (Conn L K) → Option (Conn L K)
+stops_in None = None
+stops_in (Some c) = Some (stops c)
 
 -- what lies in a slot
 abbrev pub lying : {X : Type 0} → Option (Option X) → Option X

@@ -1,5 +1,6 @@
 //! A reactor's connections, in order of arrival.
-ghost use Rattle.std.specs.Prelude.{◌≡◌, ◌<◌, ◌%◌, ◌++◌, ◌∷◌, [], ℕ, List, Bool, length, slice_get, slice_set, remove, map, Some, OnOk, OnErr, IfSome, IfOk};
+ghost use Rattle.sw_reactor.specs.Line.{stops_in};
+ghost use Rattle.std.specs.Prelude.{◌≡◌, ◌<◌, ◌%◌, ◌++◌, ◌∷◌, [], Bool, length, slice_get, slice_set, remove, map, Some, None, IfOk, MatchOption};
 
 use std::alloc::Global;
 use std::marker::Model;
@@ -35,7 +36,7 @@ impl<L, K> Line<L, K> {
     ghost use Rattle.std.specs.Prelude.{◌≡◌};
     ghost use Rattle.sw_conn.specs.Conn.{sent, closes, resets, answered, noted, holds, stops, cleared, sees};
     ghost use Rattle.sw_conn.specs.Serve.{Chooses};
-    ghost use Rattle.sw_reactor.specs.Line.{AtLine, AtSession};
+    ghost use Rattle.sw_reactor.specs.Line.{AtLine, AtSession, LivesAt, place_of};
 
     /// How many connections there are.
     pub fn len(&self) -> usize
@@ -63,14 +64,31 @@ impl<L, K> Line<L, K> {
         session.number() as usize % self.slots.len()
     }
 
+    /// The slot of a session's connection, if there is one. It takes no walk.
+    fn find(&self, session: Session) -> Option<usize>
+        ensures { MatchOption result (place_of session self.now.conns ≡ None) (λ slot. LivesAt session self.now slot) }
+    {
+        let slot = self.slot_of(session);
+        match &self.slots[slot] {
+            None => None,
+            Some(conn) => {
+                if conn.session.number() == session.number() {
+                    Some(slot)
+                } else {
+                    None
+                }
+            }
+        }
+    }
+
     /// A send for a session.
     pub fn take_send(&mut self, terms: Terms, session: Session, bytes: Octets)
         ensures { AtSession self.old session (λ c d. (starved : Bool) × (d ≡ sent terms starved bytes c)) self.new }
     {
-        let slot = self.slot_of(session);
-        if let Some(conn) = &mut self.slots[slot] {
-            if conn.session.number() == session.number() {
-                conn.take_send(terms, bytes);
+        if let Some(slot) = self.find(session) {
+            match &mut self.slots[slot] {
+                Some(conn) => conn.take_send(terms, bytes),
+                None => unreachable!(),
             }
         }
     }
@@ -79,10 +97,10 @@ impl<L, K> Line<L, K> {
     pub fn take_close(&mut self, session: Session)
         ensures { AtSession self.old session (λ c d. d ≡ closes c) self.new }
     {
-        let slot = self.slot_of(session);
-        if let Some(conn) = &mut self.slots[slot] {
-            if conn.session.number() == session.number() {
-                conn.take_close();
+        if let Some(slot) = self.find(session) {
+            match &mut self.slots[slot] {
+                Some(conn) => conn.take_close(),
+                None => unreachable!(),
             }
         }
     }
@@ -91,10 +109,10 @@ impl<L, K> Line<L, K> {
     pub fn take_reset(&mut self, session: Session)
         ensures { AtSession self.old session (λ c d. d ≡ resets c) self.new }
     {
-        let slot = self.slot_of(session);
-        if let Some(conn) = &mut self.slots[slot] {
-            if conn.session.number() == session.number() {
-                conn.take_reset();
+        if let Some(slot) = self.find(session) {
+            match &mut self.slots[slot] {
+                Some(conn) => conn.take_reset(),
+                None => unreachable!(),
             }
         }
     }
@@ -103,10 +121,10 @@ impl<L, K> Line<L, K> {
     pub fn take_bye(&mut self, session: Session)
         ensures { AtSession self.old session (λ c d. d ≡ answered c) self.new }
     {
-        let slot = self.slot_of(session);
-        if let Some(conn) = &mut self.slots[slot] {
-            if conn.session.number() == session.number() {
-                conn.take_bye();
+        if let Some(slot) = self.find(session) {
+            match &mut self.slots[slot] {
+                Some(conn) => conn.take_bye(),
+                None => unreachable!(),
             }
         }
     }
@@ -115,10 +133,10 @@ impl<L, K> Line<L, K> {
     pub fn note(&mut self, terms: Terms, session: Session, kind: Kind)
         ensures { AtSession self.old session (λ c d. d ≡ noted terms kind c) self.new }
     {
-        let slot = self.slot_of(session);
-        if let Some(conn) = &mut self.slots[slot] {
-            if conn.session.number() == session.number() {
-                conn.note(terms, kind);
+        if let Some(slot) = self.find(session) {
+            match &mut self.slots[slot] {
+                Some(conn) => conn.note(terms, kind),
+                None => unreachable!(),
             }
         }
     }
@@ -127,10 +145,10 @@ impl<L, K> Line<L, K> {
     pub fn hold(&mut self, session: Session, worker: u32, event: Event)
         ensures { AtSession self.old session (λ c d. d ≡ holds worker event c) self.new }
     {
-        let slot = self.slot_of(session);
-        if let Some(conn) = &mut self.slots[slot] {
-            if conn.session.number() == session.number() {
-                conn.hold(worker, event);
+        if let Some(slot) = self.find(session) {
+            match &mut self.slots[slot] {
+                Some(conn) => conn.hold(worker, event),
+                None => unreachable!(),
             }
         }
     }
@@ -140,9 +158,7 @@ impl<L, K> Line<L, K> {
         ensures { self.new ≡ record self.old { conns = map stops self.old.conns } }
     {
         for slot in self.slots.iter_mut() {
-            if let Some(conn) = slot {
-                conn.take_stop();
-            }
+            stop_one(slot);
         }
     }
 
@@ -167,8 +183,9 @@ impl<L, K> Line<L, K> {
         ensures { AtLine self.old at (λ c d. d ≡ sees uid c) self.new }
     {
         let slot = self.order[at] as usize;
-        if let Some(conn) = &mut self.slots[slot] {
-            conn.see(uid);
+        match &mut self.slots[slot] {
+            Some(conn) => conn.see(uid),
+            None => unreachable!(),
         }
     }
 
@@ -232,9 +249,12 @@ impl<L: Drop, K: Ticketed + Drop> Line<L, K> {
         ensures book { book.new ≡ book.old }
     {
         let slot = self.slot_of(ticket.session());
-        if let Some(conn) = &mut self.slots[slot] {
-            book.apart(&mut conn.ticket, ticket);
-            unreachable!()
+        match &mut self.slots[slot] {
+            None => {}
+            Some(conn) => {
+                book.apart(&mut conn.ticket, ticket);
+                unreachable!()
+            }
         }
     }
 }
@@ -268,5 +288,15 @@ impl<L: Link, K> Line<L, K> {
             Some(conn) => conn.read(buf),
             None => unreachable!(),
         }
+    }
+}
+
+/// The connection in a slot stops, if there is one.
+fn stop_one<L, K>(slot: &mut Option<Conn<L, K>>)
+    ensures { slot.new ≡ stops_in slot.old }
+{
+    match slot {
+        None => {}
+        Some(conn) => conn.take_stop(),
     }
 }
