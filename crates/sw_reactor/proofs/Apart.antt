@@ -28,10 +28,10 @@ told_apart {L} {K} {B} slots order room number holds differ b ticket k o c l i v
     lies = lying_read slots k o (omega (arith, within, n)) is ∙ there
     p : (q : ℕ) × (slice_get order q ≡ Some k)
     p = i.listed k c lies
-    at : slice_get l.conns p.0 ≡ Some c
-    at = subst (λ x. slice_get x.conns p.0 ≡ Some c) v (line_at slots order i.lies p.0 k c p.1 lies)
+    standing : slice_get l.conns p.0 ≡ Some c
+    standing = subst (λ x. slice_get x.conns p.0 ≡ Some c) v (line_at slots order i.lies p.0 k c p.1 lies)
     ticket_at : slice_get (tickets_of l.conns) p.0 ≡ Some c.ticket
-    ticket_at = map_at (λ (x : Conn L K). x.ticket) l.conns p.0 c at
+    ticket_at = map_at (λ (x : Conn L K). x.ticket) l.conns p.0 c standing
     here : slice_get (tickets_of l.conns ++ ticket ∷ []) p.0 ≡ Some c.ticket
     here = front_at (tickets_of l.conns) (ticket ∷ []) p.0 c.ticket ticket_at
     behind : slice_get (tickets_of l.conns ++ ticket ∷ []) (length (tickets_of l.conns)) ≡ Some ticket
@@ -41,7 +41,7 @@ told_apart {L} {K} {B} slots order room number holds differ b ticket k o c l i v
     session : c.session ≡ number c.ticket
     session =
         some_is c.session (number c.ticket)
-        (sym (map_at (λ (x : Conn L K). x.session) l.conns p.0 c at) ∙ (ap (λ xs. slice_get xs p.0) own ∙ map_at number (tickets_of l.conns) p.0 c.ticket ticket_at))
+        (sym (map_at (λ (x : Conn L K). x.session) l.conns p.0 c standing) ∙ (ap (λ xs. slice_get xs p.0) own ∙ map_at number (tickets_of l.conns) p.0 c.ticket ticket_at))
 
 -- with an empty slot no connection has it
 pub none_there : {L K : Type 0} (slots : List (Option (Conn L K))) (order : List ℕ) (room s k : ℕ) (o : Option (Conn L K)) (l : Lined L K) → IsLine slots order room → lined slots order ≡ l → k ≡ s % l.room → k < l.room → o ≡ slice_index_or slots k o → o ≡ None → IsFree s l

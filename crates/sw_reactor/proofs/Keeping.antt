@@ -79,7 +79,7 @@ cut_of (next.TooLong n) c = record { session = refl; ticket = refl }
 cut_of (next.BadLength n) c = record { session = refl; ticket = refl }
 cut_of next.OutOfMemory c = record { session = refl; ticket = refl }
 
-by_bool : (b : Bool) (P Q R : Type 0) → (P → R) → (Q → R) → MatchBool b P Q → R
+pub by_bool : (b : Bool) (P Q R : Type 0) → (P → R) → (Q → R) → MatchBool b P Q → R
 by_bool true P Q R f g h = f h
 by_bool false P Q R f g h = g h
 

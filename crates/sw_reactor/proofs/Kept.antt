@@ -2,6 +2,7 @@
 use Rattle.std.proofs.Common.{◌≡◌, ℕ, zero, suc, ◌+◌, ◌-◌, ◌<◌, ◌≤◌, ◌==◌, Bool, true, false, if◌then◌else◌, nat_lt, List, [], ◌∷◌, ◌++◌, length, map, take, drop, remove, slice_get, Option, Some, None, refl, sym, ap, ◌∙◌, subst, arith, append-nil, ◌⊎◌, inl, inr}
 use Rattle.std.specs.Bool.{MatchBool}
 use Rattle.std.proofs.lemmas.Bool.Decides.{nat_tests}
+use Rattle.sw_data.specs.declared.ended.Cause.{Cause}
 use Rattle.sw_data.specs.declared.events.Event.{Event}
 use Rattle.sw_data.specs.declared.messages.Msg.{Msg}
 use Rattle.sw_data.specs.declared.messages.Msg.TheVariants as msgs
@@ -21,6 +22,7 @@ use Rattle.sw_conn.specs.declared.conn.Kind.{Kind}
 use Rattle.sw_conn.specs.declared.conn.Kind.TheVariants as kinds
 use Rattle.sw_conn.specs.declared.serve.Step.{Step}
 use Rattle.sw_conn.specs.declared.serve.Step.TheVariants as chosen
+use Rattle.sw_conn.specs.declared.terms.Terms.{Terms}
 use Rattle.sw_conn.specs.Modes.{keeps}
 use Rattle.sw_conn.specs.Conn.{IsFresh, fresh, sent, closes, resets, answered, noted, holds, stops, sees, kind_of, cleared}
 use Rattle.sw_conn.specs.Serve.{FlushedBy, Chooses, ReadsBy}
@@ -29,12 +31,12 @@ use Rattle.sw_reactor.specs.declared.reactor.Asked.TheVariants as asks
 use Rattle.sw_reactor.specs.declared.reactor.Reactor.{Reactor}
 use Rattle.sw_reactor.specs.Line.{Lined, AtLine, AtSession, sessions_of}
 use Rattle.sw_reactor.specs.Reactor.{OnLine, Joins, SettlesMsg, SettlesPush, SettlesEvent, SettlesFull}
-use Rattle.sw_reactor.specs.Turn.{Asks, Takes, behind_at, moved, wrote_some, Stays, Pushes, ends_asked}
-use Rattle.sw_reactor.specs.Aims.{AimsSide, AimsIdle, AfterRead, ReadsNext, ReadsMore}
+use Rattle.sw_reactor.specs.Turn.{Asks, Takes, behind_at, moved, stayed, wrote_some, Stays, Pushes, ends_asked}
+use Rattle.sw_reactor.specs.Aims.{uid_of, AimsSide, AimsIdle, AfterRead, ReadsNext, ReadsMore}
 use Rattle.sw_reactor.specs.Leave.{Leaves, at_left}
 use Rattle.sw_reactor.specs.Serving.{Ports, Aims, counted, Tells, Steps, ServesNext, Serves}
 use Rattle.sw_reactor.specs.Ready.{IsReady, AreApart, tickets_of, tickets, brought_by}
-use Rattle.sw_reactor.proofs.Keeping.{IsOf, of_same, of_is, sent_of, noted_of, sees_of, flushed_of, reads_of, chooses_of, Alike, alike_is, alike_then, at_alike, session_alike, some_is}
+use Rattle.sw_reactor.proofs.Keeping.{by_bool, IsOf, of_same, of_is, sent_of, noted_of, sees_of, flushed_of, reads_of, chooses_of, Alike, alike_is, alike_then, at_alike, session_alike, some_is}
 use Rattle.sw_reactor.proofs.Slots.{not_none, stood, stood_same}
 
 -- tickets
@@ -64,10 +66,7 @@ apart_removed {B} {K} holds differ b d ts p t a g others =
     two j k u v h i n =
         let s = stood ts p j u h in
         let r = stood ts p k v i in
-        a.two s.from r.from u v s.there r.there (λ e. n (same j k s.from r.from s.below s.above r.below r.above e))
-      where
-        same : (q r a b : ℕ) → (q < p → a ≡ q) → (p ≤ q → a ≡ suc q) → (r < p → b ≡ r) → (p ≤ r → b ≡ suc r) → a ≡ b → q ≡ r
-        same = stood_same p
+        a.two s.from r.from u v s.there r.there (λ e. n (stood_same p j k s.from r.from s.below s.above r.below r.above e))
 
 -- a reactor that differs in what isn't asked of it
 pub ready_line : {L K : Type 0} (number : K → ℕ) (r q : Reactor L K) → IsReady number r → q.terms ≡ r.terms → q.buffer ≡ r.buffer → q.at ≡ r.at → Alike r.line q.line → IsReady number q
@@ -202,7 +201,7 @@ next_left at n = pick (nat_lt at n) refl
 
 -- the next place, and what was asked and counted, are changed
 placed : {L K : Type 0} (number : K → ℕ) (r q x : Reactor L K) → IsReady number r → q ≡ x → x.terms ≡ r.terms → x.buffer ≡ r.buffer → x.line ≡ r.line → x.at ≡ behind_at r.at (length r.line.conns) → IsKept number q (tickets r)
-placed number r q x i e t b l at =
+placed number r q x i e t b l place =
     kept_is number q x (tickets r) e
     (record {
       ready =
@@ -211,7 +210,7 @@ placed number r q x i e t b l at =
           slots = rw t i.slots;
           room = rw (l, t) i.room;
           buffer = rw b i.buffer;
-          next = rw (at, l) (next_behind r.at (length r.line.conns));
+          next = rw (place, l) (next_behind r.at (length r.line.conns));
           own = rw l i.own;
         };
       tickets = rw l refl;
@@ -221,17 +220,14 @@ moved_kept : {L K : Type 0} (number : K → ℕ) (r q : Reactor L K) → IsReady
 moved_kept number r q i e = placed number r q (moved r) i e refl refl refl refl
 
 stays_kept : {L K : Type 0} (number : K → ℕ) (wrote : Option LinkWrite) (r : Reactor L K) (a : Asks L K) (q : Reactor L K) → IsReady number r → Stays wrote r a q → IsKept number q (tickets r)
-stays_kept {L} {K} number wrote r a q i h = pick (wrote_some wrote) h
-  where
-    pick : (b : Bool) → MatchBool b _ _ → IsKept number q (tickets r)
-    pick true k = moved_kept number r q i k.1
-    pick false k = placed number r q _ i k.1 refl refl refl refl
+stays_kept number wrote r a q i h =
+    by_bool (wrote_some wrote) _ _ (IsKept number q (tickets r)) (λ k. moved_kept number r q i k.1) (λ k. placed number r q (stayed r) i k.1 refl refl refl refl) h
 
 pub pushes_kept : {L K : Type 0} (number : K → ℕ) (w : ℕ) (e : Event) (r : Reactor L K) (a : Asks L K) (q : Reactor L K) → IsReady number r → Pushes w e r a q → IsKept number q (tickets r)
 pushes_kept number w e r a q i h = placed number r q _ i h.1 refl refl refl refl
 
-then : {L K : Type 0} (number : K → ℕ) (r m q : Reactor L K) → IsKept number m (tickets r) → IsKept number q (tickets m) → IsKept number q (tickets r)
-then number r m q k h = record { ready = h.ready; tickets = h.tickets ∙ k.tickets }
+behind : {L K : Type 0} (number : K → ℕ) (r m q : Reactor L K) → IsKept number m (tickets r) → IsKept number q (tickets m) → IsKept number q (tickets r)
+behind number r m q k h = record { ready = h.ready; tickets = h.tickets ∙ k.tickets }
 
 after_kept : {L K : Type 0} (number : K → ℕ) (wrote : Option LinkWrite) (l : LinkRead) (r : Reactor L K) (a : Asks L K) (q : Reactor L K) → IsReady number r → AfterRead wrote l r a q → IsKept number q (tickets r)
 after_kept number wrote (reads.Got n) r a q i h = moved_kept number r q i h.1
@@ -244,21 +240,16 @@ read_kept number gives wrote r a q i (l, (m, (h, k))) =
     let alike = at_alike (λ c d. ReadsBy gives (length r.buffer.items) c (read_of l m.buffer.items) d) (λ c d e. reads_of gives (length r.buffer.items) c (read_of l m.buffer.items) d e) r.line m.line r.at h.0 in
     let line = ready_line number r (record r { line = m.line }) i refl refl refl alike in
     let there : IsKept number m (tickets r) = kept_is number m _ (tickets r) h.1 (record { ready = record { workers = line.workers; slots = line.slots; room = line.room; buffer = rw h.2 i.buffer; next = line.next; own = line.own }; tickets = alike.tickets }) in
-    then number r m q there (after_kept number wrote l m a q there.ready k)
+    behind number r m q there (after_kept number wrote l m a q there.ready k)
 
 sees_kept : {L K B : Type 0} (number : K → ℕ) (finds : B → ℕ → Word → B → Type 0) (r : Reactor L K) (b : B) (w : ℕ) (q : Reactor L K) (d : B) → IsReady number r → AimsSide finds r b w q d → IsKept number q (tickets r)
 sees_kept number finds r b w q d i (look, (found, line, is, side)) =
-    on_line number r q i (at_alike _ (λ x y e. of_is x y _ e (sees_of _ x)) r.line q.line r.at line) is
+    on_line number r q i (at_alike (λ x y. y ≡ sees (uid_of look) x) (λ x y e. of_is x y (sees (uid_of look) x) e (sees_of (uid_of look) x)) r.line q.line r.at line) is
 
 aims_kept : {L K B C : Type 0} (number : K → ℕ) (looks : B → ℕ → Word → B → Type 0) (goes : C → List BoardStep → C → Type 0) (sizes : C → Sizes) (r : Reactor L K) (b : B) (o : C) (w : ℕ) (q : Reactor L K) (d : B) (u : C) → IsReady number r → Aims looks goes sizes r b o w q d u → IsKept number q (tickets r)
-aims_kept {L} {K} number looks goes sizes r b o w q d u i h = pick (keeps r.terms.mode) h
-  where
-    side : (c : Bool) → MatchBool c _ _ → IsKept number q (tickets r)
-    side true k = sees_kept number looks r b w q d i k.0
-    side false k = is_kept number r q i k.1
-    pick : (c : Bool) → MatchBool c _ _ → IsKept number q (tickets r)
-    pick true k = is_kept number r q i k.1
-    pick false k = side (r.terms.mode == 5) k
+aims_kept number looks goes sizes r b o w q d u i h =
+    by_bool (keeps r.terms.mode) _ _ (IsKept number q (tickets r)) (λ k. is_kept number r q i k.1)
+    (λ m. by_bool (r.terms.mode == 5) _ _ (IsKept number q (tickets r)) (λ k. sees_kept number looks r b w q d i k.0) (λ k. is_kept number r q i k.1) m) h
 
 counted_kept : {L K : Type 0} (number : K → ℕ) (kind : Kind) (r : Reactor L K) → IsReady number r → IsKept number (counted kind r) (tickets r)
 counted_kept number kinds.Packet r i = kept_alike number r _ i refl refl refl (same_line r.line)
@@ -270,13 +261,13 @@ pub tells_kept : {L K B C : Type 0} (number : K → ℕ) (looks : B → ℕ → 
 tells_kept number looks goes sizes e r b o a q d u i (w, (m, (aims, pushes))) =
     let aimed = aims_kept number looks goes sizes r b o w m d u i aims in
     let counts = counted_kept number (kind_of e) m aimed.ready in
-    then number r m q aimed (then number m (counted (kind_of e) m) q counts (pushes_kept number w e (counted (kind_of e) m) a q counts.ready pushes))
+    behind number r m q aimed (behind number m (counted (kind_of e) m) q counts (pushes_kept number w e (counted (kind_of e) m) a q counts.ready pushes))
 
 pub tickets_left : {L K : Type 0} (conns : List (Conn L K)) (at : ℕ) → tickets_of (remove conns at) ≡ remove (tickets_of conns) at
 tickets_left {L} {K} conns at = map_remove (λ (c : Conn L K). c.ticket) conns at
 
-leaves_ready : {L K B C E : Type 0} (number : K → ℕ) (p : Ports L K B C E) (r : Reactor L K) (b : B) (o : C) (f : E) (q : Reactor L K) (d : B) (u : C) (g : E) (cause : _) → IsReady number r → Leaves p.releases p.goes p.puts cause r b o f q d u g → IsReady number q
-leaves_ready {L} {K} number p r b o f q d u g cause i (c, (at, (uid, (released, (kept, (put, counts, is)))))) =
+leaves_ready : {L K B C E : Type 0} (number : K → ℕ) (p : Ports L K B C E) (r : Reactor L K) (b : B) (o : C) (f : E) (q : Reactor L K) (d : B) (u : C) (g : E) (cause : Cause) → IsReady number r → Leaves p.releases p.goes p.puts cause r b o f q d u g → IsReady number q
+leaves_ready {L} {K} number p r b o f q d u g cause i (c, (there, (uid, (released, (kept, (put, counts, is)))))) =
     rw is
     (record {
       workers = i.workers;
@@ -298,19 +289,18 @@ steps_ready number p (chosen.Leave e) wrote r b o f a q d u g i h = leaves_ready
 pub flush_alike : {L K : Type 0} (gives : L → List ℕ → LinkWrite → L → Type 0) (l m : Lined L K) (at : ℕ) (wrote : Option LinkWrite) → AtLine l at (λ x y. FlushedBy gives x wrote y) m → Alike l m
 flush_alike gives l m at wrote h = at_alike (λ x y. FlushedBy gives x wrote y) (λ c d e. flushed_of gives c wrote d e) l m at h
 
-pub choose_alike : {L K : Type 0} (t : _) (l m : Lined L K) (at : ℕ) (step : Step) → AtLine l at (λ x y. Chooses t (cleared x) y step) m → Alike l m
+pub choose_alike : {L K : Type 0} (t : Terms) (l m : Lined L K) (at : ℕ) (step : Step) → AtLine l at (λ x y. Chooses t (cleared x) y step) m → Alike l m
 choose_alike t l m at step h = at_alike (λ x y. Chooses t (cleared x) y step) (λ c d e. chooses_of t c d step e) l m at h
 
+next_ready : {L K B C E : Type 0} (number : K → ℕ) (p : Ports L K B C E) (r : Reactor L K) (b : B) (o : C) (f : E) (a : Asks L K) (q : Reactor L K) (d : B) (u : C) (g : E) → IsReady number r → ServesNext p r b o f a q d u g → IsReady number q
+next_ready number p r b o f a q d u g i (wrote, (l, (flushed, (step, (m, (chose, made)))))) =
+    let alike = alike_then r.line l m (flush_alike p.writes r.line l r.at wrote flushed) (choose_alike r.terms l m r.at step chose) in
+    steps_ready number p step wrote (record r { line = m }) b o f a q d u g (ready_line number r (record r { line = m }) i refl refl refl alike) made
+
 pub serves_ready : {L K B C E : Type 0} (number : K → ℕ) (p : Ports L K B C E) (r : Reactor L K) (b : B) (o : C) (f : E) (a : Asks L K) (q : Reactor L K) (d : B) (u : C) (g : E) → IsReady number r → Serves p r b o f a q d u g → IsReady number q
-serves_ready {L} {K} number p r b o f a q d u g i h = pick (nat_lt r.at (length r.line.conns)) h
-  where
-    next : ServesNext p r b o f a q d u g → IsReady number q
-    next (wrote, (l, (flushed, (step, (m, (chose, made)))))) =
-        let alike = alike_then r.line l m (flush_alike p.writes r.line l r.at wrote flushed) (choose_alike r.terms l m r.at step chose) in
-        steps_ready number p step wrote (record r { line = m }) b o f a q d u g (ready_line number r (record r { line = m }) i refl refl refl alike) made
-    pick : (c : Bool) → MatchBool c _ _ → IsReady number q
-    pick true k = next k
-    pick false k = (kept_is number q _ (tickets r) k.1 (kept_alike number r _ i refl refl refl (same_line r.line))).ready
+serves_ready number p r b o f a q d u g i h =
+    by_bool (nat_lt r.at (length r.line.conns)) _ _ (IsReady number q) (λ k. next_ready number p r b o f a q d u g i k)
+    (λ k. (kept_is number q (record r { asked = ends_asked r }) (tickets r) k.1 (kept_alike number r (record r { asked = ends_asked r }) i refl refl refl (same_line r.line))).ready) h
 
 stops_same : {L K : Type 0} (conns : List (Conn L K)) → (length (map stops conns) ≡ length conns) × (sessions_of (map stops conns) ≡ sessions_of conns) × (tickets_of (map stops conns) ≡ tickets_of conns)
 stops_same [] = (refl, refl, refl)

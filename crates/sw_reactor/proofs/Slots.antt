@@ -391,9 +391,6 @@ line_remove slots (j ∷ order) h once (suc p) k g =
     zero_not : (q : ℕ) → 0 ≡ suc q → ⊥
     zero_not q e = omega (arith, e)
 
-with_conns : {L K : Type 0} (m : ℕ) (a : List (Conn L K)) → Lined L K
-with_conns m a = record { conns = a; room = m }
-
 pub lined_is : {L K : Type 0} (a b : List (Conn L K)) (m n : ℕ) → a ≡ b → m ≡ n → ◌≡◌ {A = Lined L K} (record { conns = a; room = m }) (record { conns = b; room = n })
 lined_is a b m n e f = rw (e, f) refl
 
@@ -528,11 +525,26 @@ has_room {L} {K} slots order room k conn l i v e within free =
     once zero (suc q) j g h = absurd (not_there q (h ∙ sym g))
     once (suc p) zero j g h = absurd (not_there p (g ∙ sym h))
     once (suc p) (suc q) j g h = ap suc (i.once p q j g h)
+    spot : (q p : ℕ) → slice_get (k ∷ order) p ≡ Some q → q < length slots
+    spot q zero g = let n : length slots ≡ l.room = ap (λ x. x.room) v in let s = some_is k q g in omega (arith, within, n, s)
+    spot q (suc p) g = slot_within slots q (i.lies p q g).0 (i.lies p q g).1
     below : (q : ℕ) → list_any (eqb q) (k ∷ order) ≡ true → q < length slots
-    below q h =
-        let w = any_at q (k ∷ order) h in
-        at w.0 w.1
-      where
-        at : (p : ℕ) → slice_get (k ∷ order) p ≡ Some q → q < length slots
-        at zero g = let n : length slots ≡ l.room = ap (λ x. x.room) v in let s = some_is k q g in omega (arith, within, n, s)
-        at (suc p) g = slot_within slots q (i.lies p q g).0 (i.lies p q g).1
+    below q h = let w = any_at q (k ∷ order) h in spot q w.0 w.1
+
+-- one more empty slot
+pub push_none : {X : Type 0} (slots : List (Option X)) → ((k : ℕ) (c : X) → ¬ (in_slot slots k ≡ Some c)) → (k : ℕ) (c : X) → ¬ (in_slot (slots ++ None ∷ []) k ≡ Some c)
+push_none [] n zero c e = not_none c e
+push_none [] n (suc k) c e = not_none c e
+push_none (o ∷ slots) n zero c e = n zero c e
+push_none (o ∷ slots) n (suc k) c e = push_none slots (λ j d h. n (suc j) d h) k c e
+
+pub made_line : {L K : Type 0} (slots : List (Option (Conn L K))) (order : List ℕ) (n room : ℕ) → length slots ≡ n → 0 < n → n ≤ room → ((k : ℕ) (c : Conn L K) → ¬ (in_slot slots k ≡ Some c)) → order ≡ [] → IsLine slots order room
+made_line slots order n room e some fit none is =
+    record {
+      some = omega (arith, e, some);
+      fits = omega (arith, e, fit);
+      own = λ k c h. absurd (none k c h);
+      listed = λ k c h. absurd (none k c h);
+      lies = λ p k g. not_none k (sym (ap (λ xs. slice_get xs p) is) ∙ g);
+      once = λ p q k g h. not_none k (sym (ap (λ xs. slice_get xs p) is) ∙ g);
+    }

@@ -14,7 +14,7 @@ returns-clause-leaves g c =
 
 pub returns-clause-apart : goal.returns-clause-apart
 returns-clause-apart g c =
-    let at = map_at (λ x. x.ticket) c.args.self.now.line.conns c.args.self.now.at c.remove-conn.result c.remove-conn.ensures.taken in
+    let standing = map_at (λ x. x.ticket) c.args.self.now.line.conns c.args.self.now.at c.remove-conn.result c.remove-conn.ensures.taken in
     let others = rw c.into_parts-link.ensures.1 at c.release-uid.ensures.others in
-    let left = apart_removed g.B.Book.holds g.B.Book.differ c.args.book.now c.release-uid.new.self (tickets c.args.self.now) c.args.self.now.at c.remove-conn.result.ticket c.requires.apart at others in
+    let left = apart_removed g.B.Book.holds g.B.Book.differ c.args.book.now c.release-uid.new.self (tickets c.args.self.now) c.args.self.now.at c.remove-conn.result.ticket c.requires.apart standing others in
     rw (c.close_up.ensures, c.count_end.ensures.reactor, c.remove-conn.ensures.left, tickets_left c.args.self.now.line.conns c.args.self.now.at) left
