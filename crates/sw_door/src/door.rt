@@ -114,13 +114,7 @@ impl Door {
         D: Desk<Ticket = K>,
         C: Board,
         E: Ends<L>,
-    >(
-        &mut self,
-        net: &mut N,
-        desk: &mut D,
-        board: &mut C,
-        ends: &mut E,
-    ) -> Ask<Msg<L, K>>
+    >(&mut self, net: &mut N, desk: &mut D, board: &mut C, ends: &mut E) -> Ask<Msg<L, K>>
         requires reactors { 0 < self.old.reactor_num }
         requires slots { 0 < self.old.max_conn }
         ensures { Goes (ports_of K.number N.accept_gives D.claim_gives C.goes E.put_gives) self.old net.old desk.old board.old ends.old result self.new net.new desk.new board.new ends.new }
@@ -164,13 +158,7 @@ impl Door {
         D: Desk<Ticket = K>,
         C: Board,
         E: Ends<L>,
-    >(
-        &mut self,
-        net: &mut N,
-        desk: &mut D,
-        board: &mut C,
-        ends: &mut E,
-    ) -> Ask<Msg<L, K>>
+    >(&mut self, net: &mut N, desk: &mut D, board: &mut C, ends: &mut E) -> Ask<Msg<L, K>>
         requires reactors { 0 < self.old.reactor_num }
         requires slots { 0 < self.old.max_conn }
         ensures { AcceptsOne (ports_of K.number N.accept_gives D.claim_gives C.goes E.put_gives) self.old net.old desk.old board.old ends.old result self.new net.new desk.new board.new ends.new }
@@ -180,13 +168,7 @@ impl Door {
         self.take_answer(answer, desk, board, ends)
     }
 
-    fn take_answer<
-        L: Link + Drop,
-        K: Ticketed + Drop,
-        D: Desk<Ticket = K>,
-        C: Board,
-        E: Ends<L>,
-    >(
+    fn take_answer<L: Link + Drop, K: Ticketed + Drop, D: Desk<Ticket = K>, C: Board, E: Ends<L>>(
         &mut self,
         answer: Accept<L>,
         desk: &mut D,

@@ -24,20 +24,28 @@ told_apart {L} {K} {B} slots order room number holds differ b ticket k o c l i v
   where
     n : length slots ≡ l.room
     n = ap (λ x. x.room) v
+
     lies : in_slot slots k ≡ Some c
     lies = lying_read slots k o (omega (arith, within, n)) is ∙ there
+
     p : (q : ℕ) × (slice_get order q ≡ Some k)
     p = i.listed k c lies
+
     standing : slice_get l.conns p.0 ≡ Some c
     standing = subst (λ x. slice_get x.conns p.0 ≡ Some c) v (line_at slots order i.lies p.0 k c p.1 lies)
+
     ticket_at : slice_get (tickets_of l.conns) p.0 ≡ Some c.ticket
     ticket_at = map_at (λ (x : Conn L K). x.ticket) l.conns p.0 c standing
+
     here : slice_get (tickets_of l.conns ++ ticket ∷ []) p.0 ≡ Some c.ticket
     here = front_at (tickets_of l.conns) (ticket ∷ []) p.0 c.ticket ticket_at
+
     behind : slice_get (tickets_of l.conns ++ ticket ∷ []) (length (tickets_of l.conns)) ≡ Some ticket
     behind = last_at (tickets_of l.conns) ticket
+
     lt : p.0 < length (tickets_of l.conns)
     lt = slice_get_within (tickets_of l.conns) p.0 c.ticket ticket_at
+
     session : c.session ≡ number c.ticket
     session =
         some_is c.session (number c.ticket)
@@ -50,8 +58,10 @@ none_there {L} {K} slots order room s k o l i v e within is none =
   where
     n : length slots ≡ l.room
     n = ap (λ x. x.room) v
+
     empty : in_slot slots k ≡ None
     empty = lying_read slots k o (omega (arith, within, n)) is ∙ none
+
     free : (q : ℕ) (c : Conn L K) → slice_get l.conns q ≡ Some c → ¬ (c.session % l.room ≡ s % l.room)
     free q c g f =
         let here = subst (λ x. slice_get x.conns q ≡ Some c) (sym v) g in

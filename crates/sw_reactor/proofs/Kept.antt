@@ -62,6 +62,7 @@ apart_removed {B} {K} holds differ b d ts p t a g others =
     held q u h =
         let s = stood ts p q u h in
         others u (a.two p s.from t u g s.there (λ e. s.other (sym e))) (a.held s.from u s.there)
+
     two : (j k : ℕ) (u v : K) → slice_get (remove ts p) j ≡ Some u → slice_get (remove ts p) k ≡ Some v → ¬ (j ≡ k) → differ u v
     two j k u v h i n =
         let s = stood ts p j u h in
@@ -115,14 +116,14 @@ joined {L} {K} number r q c ticket i s t e =
     kept_is number q _ (tickets r ++ ticket ∷ []) e
     (record {
       ready =
-        record {
-          workers = i.workers;
-          slots = i.slots;
-          room = i.room;
-          buffer = i.buffer;
-          next = λ p. longer (i.next p);
-          own = map_push (λ (x : Conn L K). x.session) r.line.conns c ∙ (ap (λ n. sessions_of r.line.conns ++ n ∷ []) (s ∙ ap number (sym t)) ∙ (ap (λ ns. ns ++ number c.ticket ∷ []) i.own ∙ sym (ap (map number) (map_push (λ (x : Conn L K). x.ticket) r.line.conns c) ∙ map_push number (tickets r) c.ticket)));
-        };
+          record {
+            workers = i.workers;
+            slots = i.slots;
+            room = i.room;
+            buffer = i.buffer;
+            next = λ p. longer (i.next p);
+            own = map_push (λ (x : Conn L K). x.session) r.line.conns c ∙ (ap (λ n. sessions_of r.line.conns ++ n ∷ []) (s ∙ ap number (sym t)) ∙ (ap (λ ns. ns ++ number c.ticket ∷ []) i.own ∙ sym (ap (map number) (map_push (λ (x : Conn L K). x.ticket) r.line.conns c) ∙ map_push number (tickets r) c.ticket)));
+          };
       tickets = map_push (λ (x : Conn L K). x.ticket) r.line.conns c ∙ ap (λ y. tickets r ++ y ∷ []) t;
     })
   where
@@ -205,14 +206,14 @@ placed number r q x i e t b l place =
     kept_is number q x (tickets r) e
     (record {
       ready =
-        record {
-          workers = rw t i.workers;
-          slots = rw t i.slots;
-          room = rw (l, t) i.room;
-          buffer = rw b i.buffer;
-          next = rw (place, l) (next_behind r.at (length r.line.conns));
-          own = rw l i.own;
-        };
+          record {
+            workers = rw t i.workers;
+            slots = rw t i.slots;
+            room = rw (l, t) i.room;
+            buffer = rw b i.buffer;
+            next = rw (place, l) (next_behind r.at (length r.line.conns));
+            own = rw l i.own;
+          };
       tickets = rw l refl;
     })
 

@@ -106,8 +106,8 @@ line_set slots (j ∷ order) h once (suc p) k d g lt =
 pub slot_cases : {X : Type 0} (slots : List (Option X)) (j k : ℕ) (o : Option X) (x : X) → k < length slots → in_slot (slice_set slots k o) j ≡ Some x → ((j ≡ k) × (o ≡ Some x)) ⊎ ((¬ (j ≡ k)) × (in_slot slots j ≡ Some x))
 slot_cases slots j k o x lt e =
     elim (same_or_not j k) [
-      inl h ↦ inl (h, sym (slot_same slots k o lt) ∙ (ap (in_slot (slice_set slots k o)) (sym h) ∙ e))
-    | inr n ↦ inr (n, sym (slot_other slots j k o n) ∙ e)
+      | inl h ↦ inl (h, sym (slot_same slots k o lt) ∙ (ap (in_slot (slice_set slots k o)) (sym h) ∙ e))
+      | inr n ↦ inr (n, sym (slot_other slots j k o n) ∙ e)
     ]
 
 -- the connection in a slot is changed, and has the same session
@@ -127,20 +127,22 @@ set_is_line {L} {K} slots order room k c d i e same =
     own : k < length slots → length (slice_set slots k (Some d)) ≡ length slots → (j : ℕ) (x : Conn L K) → in_slot (slice_set slots k (Some d)) j ≡ Some x → x.session % length (slice_set slots k (Some d)) ≡ j
     own lt n j x h =
         elim (slot_cases slots j k (Some d) x lt h) [
-          inl w ↦ rw n (ap (λ (y : Conn L K). y.session % length slots) (sym (some_is d x w.1)) ∙ (ap (λ s. s % length slots) same ∙ (i.own k c e ∙ sym w.0)))
-        | inr w ↦ rw n (i.own j x w.1)
+          | inl w ↦ rw n (ap (λ (y : Conn L K). y.session % length slots) (sym (some_is d x w.1)) ∙ (ap (λ s. s % length slots) same ∙ (i.own k c e ∙ sym w.0)))
+          | inr w ↦ rw n (i.own j x w.1)
         ]
+
     listed : k < length slots → (j : ℕ) (x : Conn L K) → in_slot (slice_set slots k (Some d)) j ≡ Some x → (p : ℕ) × (slice_get order p ≡ Some j)
     listed lt j x h =
         elim (slot_cases slots j k (Some d) x lt h) [
-          inl w ↦ subst (λ y. (p : ℕ) × (slice_get order p ≡ Some y)) (sym w.0) (i.listed k c e)
-        | inr w ↦ i.listed j x w.1
+          | inl w ↦ subst (λ y. (p : ℕ) × (slice_get order p ≡ Some y)) (sym w.0) (i.listed k c e)
+          | inr w ↦ i.listed j x w.1
         ]
+
     lies : k < length slots → (p j : ℕ) → slice_get order p ≡ Some j → (x : Conn L K) × (in_slot (slice_set slots k (Some d)) j ≡ Some x)
     lies lt p j g =
         elim (same_or_not j k) [
-          inl h ↦ (d, ap (in_slot (slice_set slots k (Some d))) h ∙ slot_same slots k (Some d) lt)
-        | inr m ↦ ((i.lies p j g).0, slot_other slots j k (Some d) m ∙ (i.lies p j g).1)
+          | inl h ↦ (d, ap (in_slot (slice_set slots k (Some d))) h ∙ slot_same slots k (Some d) lt)
+          | inr m ↦ ((i.lies p j g).0, slot_other slots j k (Some d) m ∙ (i.lies p j g).1)
         ]
 
 -- the connection at a place of the order is changed
@@ -291,10 +293,13 @@ find_none {L} {K} slots order room s k o l i v e lt is no_one =
   where
     n : length slots ≡ l.room
     n = ap (λ x. x.room) v
+
     here : in_slot slots k ≡ o
     here = lying_read slots k o (omega (arith, lt, n)) is
+
     slot : k ≡ s % length slots
     slot = e ∙ ap (λ y. s % y) (sym n)
+
     other : (q : ℕ) (x : Conn L K) → slice_get (line_of slots order) q ≡ Some x → ¬ (x.session ≡ s)
     other q x g own = no_one x (sym here ∙ (ap (in_slot slots) (slot ∙ ap (λ y. y % length slots) (sym own)) ∙ (of_session slots order room i q x g).1)) own
 
@@ -332,15 +337,15 @@ pub record Stood {X : Type 0} (xs : List X) (p q : ℕ) (k : X) : Type 0 where
 pub stood : {X : Type 0} (xs : List X) (p q : ℕ) (k : X) → slice_get (remove xs p) q ≡ Some k → Stood xs p q k
 stood xs p q k g =
     elim (rest_at xs p q k g) [
-      inl h ↦ (let w = h.0 in record { from = q; there = h.1; other = λ e. omega (arith, w, e); below = λ _. refl; above = λ a. absurd (omega (arith, w, a)) })
-    | inr h ↦ (let w = h.0 in record { from = suc q; there = h.1; other = λ e. omega (arith, w, e); below = λ b. absurd (omega (arith, w, b)); above = λ _. refl })
+      | inl h ↦ (let w = h.0 in record { from = q; there = h.1; other = λ e. omega (arith, w, e); below = λ _. refl; above = λ a. absurd (omega (arith, w, a)) })
+      | inr h ↦ (let w = h.0 in record { from = suc q; there = h.1; other = λ e. omega (arith, w, e); below = λ b. absurd (omega (arith, w, b)); above = λ _. refl })
     ]
 
 pub stood_same : (p q r a b : ℕ) → (q < p → a ≡ q) → (p ≤ q → a ≡ suc q) → (r < p → b ≡ r) → (p ≤ r → b ≡ suc r) → a ≡ b → q ≡ r
 stood_same p q r a b f g h k e =
     elim (cases_lt q p) [
-      inl lt ↦ elim (cases_lt r p) [ inl m ↦ (let x = f lt in let y = h m in omega (arith, x, y, e)) | inr m ↦ (let x = f lt in let y = k m in omega (arith, x, y, e, lt, m)) ]
-    | inr le ↦ elim (cases_lt r p) [ inl m ↦ (let x = g le in let y = h m in omega (arith, x, y, e, le, m)) | inr m ↦ (let x = g le in let y = k m in omega (arith, x, y, e)) ]
+      | inl lt ↦ elim (cases_lt r p) [ inl m ↦ (let x = f lt in let y = h m in omega (arith, x, y, e)) | inr m ↦ (let x = f lt in let y = k m in omega (arith, x, y, e, lt, m)) ]
+      | inr le ↦ elim (cases_lt r p) [ inl m ↦ (let x = g le in let y = h m in omega (arith, x, y, e, le, m)) | inr m ↦ (let x = g le in let y = k m in omega (arith, x, y, e)) ]
     ]
 
 -- a connection leaves its slot and the order
@@ -350,19 +355,23 @@ remove_is_line {L} {K} slots order room room2 p k i g lt fit =
   where
     n : length (slice_set slots k None) ≡ length slots
     n = length-set slots k None
+
     own : (j : ℕ) (x : Conn L K) → in_slot (slice_set slots k None) j ≡ Some x → x.session % length (slice_set slots k None) ≡ j
     own j x h = elim (slot_cases slots j k None x lt h) [ inl w ↦ not_none x w.1 | inr w ↦ rw n (i.own j x w.1) ]
+
     listed : (j : ℕ) (x : Conn L K) → in_slot (slice_set slots k None) j ≡ Some x → (q : ℕ) × (slice_get (remove order p) q ≡ Some j)
     listed j x h =
         elim (slot_cases slots j k None x lt h) [
-          inl w ↦ not_none x w.1
-        | inr w ↦ (let r = i.listed j x w.1 in at_rest order p r.0 j r.1 (λ e. w.0 (some_is j k (sym r.1 ∙ (ap (slice_get order) e ∙ g)))))
+          | inl w ↦ not_none x w.1
+          | inr w ↦ (let r = i.listed j x w.1 in at_rest order p r.0 j r.1 (λ e. w.0 (some_is j k (sym r.1 ∙ (ap (slice_get order) e ∙ g)))))
         ]
+
     lies : (q j : ℕ) → slice_get (remove order p) q ≡ Some j → (x : Conn L K) × (in_slot (slice_set slots k None) j ≡ Some x)
     lies q j h =
         let s = stood order p q j h in
         let m : ¬ (j ≡ k) = λ e. s.other (i.once s.from p k (s.there ∙ ap Some e) g) in
         ((i.lies s.from j s.there).0, slot_other slots j k None m ∙ (i.lies s.from j s.there).1)
+
     once : (q r j : ℕ) → slice_get (remove order p) q ≡ Some j → slice_get (remove order p) r ≡ Some j → q ≡ r
     once q r j h e =
         let s = stood order p q j h in
@@ -439,39 +448,48 @@ joined_line {L} {K} slots order new room room2 k conn l i v e within free is mor
   where
     n : length slots ≡ l.room
     n = ap (λ x. x.room) v
+
     m : length (slice_set slots k (Some conn)) ≡ length slots
     m = length-set slots k (Some conn)
+
     lt : k < length slots
     lt = omega (arith, within, n)
+
     fit : length slots ≤ room → length slots ≤ room2
     fit f = omega (arith, f, more)
+
     none : (c : Conn L K) → ¬ (in_slot slots k ≡ Some c)
     none = slot_free slots order room conn.session k l i v e free
+
     own : (j : ℕ) (x : Conn L K) → in_slot (slice_set slots k (Some conn)) j ≡ Some x → x.session % length (slice_set slots k (Some conn)) ≡ j
     own j x h =
         elim (slot_cases slots j k (Some conn) x lt h) [
-          inl w ↦ rw m (ap (λ (y : Conn L K). y.session % length slots) (sym (some_is conn x w.1)) ∙ (ap (λ r. conn.session % r) n ∙ (sym e ∙ sym w.0)))
-        | inr w ↦ rw m (i.own j x w.1)
+          | inl w ↦ rw m (ap (λ (y : Conn L K). y.session % length slots) (sym (some_is conn x w.1)) ∙ (ap (λ r. conn.session % r) n ∙ (sym e ∙ sym w.0)))
+          | inr w ↦ rw m (i.own j x w.1)
         ]
+
     listed : (j : ℕ) (x : Conn L K) → in_slot (slice_set slots k (Some conn)) j ≡ Some x → (p : ℕ) × (slice_get (order ++ k ∷ []) p ≡ Some j)
     listed j x h =
         elim (slot_cases slots j k (Some conn) x lt h) [
-          inl w ↦ (length order, last_at order k ∙ ap Some (sym w.0))
-        | inr w ↦ (let r = i.listed j x w.1 in (r.0, front_at order (k ∷ []) r.0 j r.1))
+          | inl w ↦ (length order, last_at order k ∙ ap Some (sym w.0))
+          | inr w ↦ (let r = i.listed j x w.1 in (r.0, front_at order (k ∷ []) r.0 j r.1))
         ]
+
     lies : (p j : ℕ) → slice_get (order ++ k ∷ []) p ≡ Some j → (x : Conn L K) × (in_slot (slice_set slots k (Some conn)) j ≡ Some x)
     lies p j g =
         elim (push_at order k p j g) [
-          inl h ↦ (let y = i.lies p j h in (y.0, slot_other slots j k (Some conn) (λ w. none y.0 (ap (in_slot slots) (sym w) ∙ y.1)) ∙ y.1))
-        | inr h ↦ (conn, ap (in_slot (slice_set slots k (Some conn))) (sym h.1) ∙ slot_same slots k (Some conn) lt)
+          | inl h ↦ (let y = i.lies p j h in (y.0, slot_other slots j k (Some conn) (λ w. none y.0 (ap (in_slot slots) (sym w) ∙ y.1)) ∙ y.1))
+          | inr h ↦ (conn, ap (in_slot (slice_set slots k (Some conn))) (sym h.1) ∙ slot_same slots k (Some conn) lt)
         ]
+
     not_there : (p : ℕ) → ¬ (slice_get order p ≡ Some k)
     not_there p g = none (i.lies p k g).0 (i.lies p k g).1
+
     once : (p q j : ℕ) → slice_get (order ++ k ∷ []) p ≡ Some j → slice_get (order ++ k ∷ []) q ≡ Some j → p ≡ q
     once p q j g h =
         elim (push_at order k p j g) [
-          inl a ↦ elim (push_at order k q j h) [ inl b ↦ i.once p q j a b | inr b ↦ absurd (not_there p (a ∙ ap Some (sym b.1))) ]
-        | inr a ↦ elim (push_at order k q j h) [ inl b ↦ absurd (not_there q (b ∙ ap Some (sym a.1))) | inr b ↦ a.0 ∙ sym b.0 ]
+          | inl a ↦ elim (push_at order k q j h) [ inl b ↦ i.once p q j a b | inr b ↦ absurd (not_there p (a ∙ ap Some (sym b.1))) ]
+          | inr a ↦ elim (push_at order k q j h) [ inl b ↦ absurd (not_there q (b ∙ ap Some (sym a.1))) | inr b ↦ a.0 ∙ sym b.0 ]
         ]
 
 pub joined_view : {L K : Type 0} (slots : List (Option (Conn L K))) (order new : List ℕ) (room k : ℕ) (conn : Conn L K) (l : Lined L K) → IsLine slots order room → lined slots order ≡ l → k ≡ conn.session % l.room → k < l.room → IsFree conn.session l → new ≡ order ++ k ∷ [] → lined (slice_set slots k (Some conn)) new ≡ record l { conns = l.conns ++ conn ∷ [] }
@@ -484,8 +502,10 @@ joined_view {L} {K} slots order new room k conn l i v e within free is =
   where
     n : length slots ≡ l.room
     n = ap (λ x. x.room) v
+
     lt : k < length slots
     lt = omega (arith, within, n)
+
     not_there : (p : ℕ) → ¬ (slice_get order p ≡ Some k)
     not_there p g = slot_free slots order room conn.session k l i v e free (i.lies p k g).0 (i.lies p k g).1
 
@@ -494,8 +514,8 @@ any_at : (x : ℕ) (xs : List ℕ) → list_any (eqb x) xs ≡ true → (q : ℕ
 any_at x [] h = absurd (false≢true h)
 any_at x (y ∷ xs) h =
     elim (eqb_tells x y) [
-      inl w ↦ (0, ap Some (sym w.1))
-    | inr w ↦ (let r = any_at x xs (sym (ap (λ b. b || list_any (eqb x) xs) w.0) ∙ h) in (suc r.0, r.1))
+      | inl w ↦ (0, ap Some (sym w.1))
+      | inr w ↦ (let r = any_at x xs (sym (ap (λ b. b || list_any (eqb x) xs) w.0) ∙ h) in (suc r.0, r.1))
     ]
 
 each_apart : (x : ℕ) (xs : List ℕ) → ((q : ℕ) → ¬ (slice_get xs q ≡ Some x)) → AllByRecursion (λ y. eqb x y ≡ false) xs
@@ -520,14 +540,17 @@ has_room {L} {K} slots order room k conn l i v e within free =
   where
     not_there : (p : ℕ) → ¬ (slice_get order p ≡ Some k)
     not_there p g = slot_free slots order room conn.session k l i v e free (i.lies p k g).0 (i.lies p k g).1
+
     once : Once (k ∷ order)
     once zero zero j g h = refl
     once zero (suc q) j g h = absurd (not_there q (h ∙ sym g))
     once (suc p) zero j g h = absurd (not_there p (g ∙ sym h))
     once (suc p) (suc q) j g h = ap suc (i.once p q j g h)
+
     spot : (q p : ℕ) → slice_get (k ∷ order) p ≡ Some q → q < length slots
     spot q zero g = let n : length slots ≡ l.room = ap (λ x. x.room) v in let s = some_is k q g in omega (arith, within, n, s)
     spot q (suc p) g = slot_within slots q (i.lies p q g).0 (i.lies p q g).1
+
     below : (q : ℕ) → list_any (eqb q) (k ∷ order) ≡ true → q < length slots
     below q h = let w = any_at q (k ∷ order) h in spot q w.0 w.1
 

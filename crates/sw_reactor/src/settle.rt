@@ -14,12 +14,7 @@ impl<L: Drop, K: Ticketed + Drop> Reactor<L, K> {
     /// Settles what the last pipe call gave: a message goes to the connection that it is for, what was pushed is noted, and
     /// what came back is held. A message that isn't one for a reactor is dropped, and so is one for a session without a
     /// connection.
-    pub fn settle<B: Book<Ticket = K>>(
-        &mut self,
-        alloc: Global,
-        got: Got<Msg<L, K>>,
-        book: &mut B,
-    )
+    pub fn settle<B: Book<Ticket = K>>(&mut self, alloc: Global, got: Got<Msg<L, K>>, book: &mut B)
         requires ready { IsReady K.number self.old }
         requires size { B.size book.old ≡ self.old.terms.max_conn }
         requires apart { AreApart B.holds B.differ book.old (with_brought self.old got) }
