@@ -1,0 +1,4 @@
+pub mod Keeping
+pub mod Slots
+pub mod Kept
+pub mod Apart
