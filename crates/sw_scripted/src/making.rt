@@ -63,12 +63,7 @@ fn said(who: Who, from: &Taken<'_>) -> Option<Session>
     }
 }
 
-fn send(
-    alloc: Global,
-    who: Who,
-    bytes: &Bytes,
-    from: &Taken<'_>,
-) -> Result<Act, OutOfMemory>
+fn send(alloc: Global, who: Who, bytes: &Bytes, from: &Taken<'_>) -> Result<Act, OutOfMemory>
     ensures { IfOk result (λ a. a ≡ act_of (move_for (given_by from.now) (Move.Send who bytes.now)) (text_seen from.now.answer)) }
 {
     match said(who, from) {
@@ -122,12 +117,7 @@ fn info(who: Who, from: &Taken<'_>) -> Act
     }
 }
 
-fn keyed(
-    alloc: Global,
-    verb: &Verb,
-    key: &Bytes,
-    from: &Taken<'_>,
-) -> Result<Act, OutOfMemory>
+fn keyed(alloc: Global, verb: &Verb, key: &Bytes, from: &Taken<'_>) -> Result<Act, OutOfMemory>
     ensures { IfOk result (λ a. a ≡ act_of (move_for (given_by from.now) (Move.Keyed verb.now key.now)) (text_seen from.now.answer)) }
 {
     let verb = verb.try_copy()?;
