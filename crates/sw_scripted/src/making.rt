@@ -1,7 +1,6 @@
 //! The act that an act of a script comes to.
 
-ghost use Rattle.std.specs.Prelude.{◌≡◌, [], Option, None, Some, IfOk, string_bytes};
-ghost use Rattle.sw_log_text.specs.Answers.{answer_text};
+ghost use Rattle.std.specs.Prelude.{◌≡◌, IfOk};
 ghost use Rattle.sw_scripted.specs.Making.{act_of, move_for, bytes_for, who_for, value_of};
 ghost use Rattle.sw_scripted.specs.Taken.{given_by, text_seen, said};
 
