@@ -1,8 +1,7 @@
 -- An act that doesn't use the event's bytes is the same whatever was kept of them.
-use Rattle.std.proofs.Common.{◌≡◌, ℕ, Bool, true, false, ◌||◌, List, [], ◌∷◌, length, drop, map, Option, Some, None, refl, sym, ap}
+use Rattle.std.proofs.Common.{◌≡◌, ℕ, Bool, true, false, ◌||◌, List, [], ◌∷◌, drop, map, Option, refl, sym}
 use Rattle.std.proofs.lemmas.Bool.{false≢true}
 use Rattle.std.specs.Prelude.{if◌then◌else◌}
-use Rattle.std.specs.List.{list_any}
 use Rattle.sw_script.specs.declared.bytes.Bytes.{Bytes}
 use Rattle.sw_script.specs.declared.bytes.Bytes.TheVariants.{Literal, Data, Tail, Answer}
 use Rattle.sw_script.specs.declared.moves.Move.{Move}

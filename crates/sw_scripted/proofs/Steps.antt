@@ -12,7 +12,7 @@ use Rattle.sw_scripted.specs.declared.playing.Playing.{Playing}
 use Rattle.sw_scripted.specs.Fitting.{kind_of, session_of, bytes_of, first_fit}
 use Rattle.sw_scripted.specs.Making.{move_for, act_of}
 use Rattle.sw_scripted.specs.Steps.{first_due, kept}
-use Rattle.sw_scripted.specs.Scripted.{from_of, kept_from, rest_of, next_of, moves_by, rule_by, moves_on}
+use Rattle.sw_scripted.specs.Scripted.{from_of, kept_from, rest_of, next_of, moves_by, moves_on}
 use Rattle.sw_scripted.proofs.Kept.{from, kept_serves}
 
 tail_of : {A : Type 0} → List A → List A

@@ -1,5 +1,5 @@
 -- The act that an act of a script comes to.
-use Rattle.std.specs.Prelude.{ℕ, List, [], ◌∷◌, Bool, false, Option, Some, None}
+use Rattle.std.specs.Prelude.{ℕ, List, [], Option, Some, None}
 use Rattle.sw_base.specs.declared.table.Call.TheVariants as calls
 use Rattle.sw_data.specs.declared.acts.Act.{Act}
 use Rattle.sw_data.specs.declared.acts.Act.TheVariants as acts

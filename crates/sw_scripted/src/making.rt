@@ -1,7 +1,6 @@
 //! The act that an act of a script comes to.
 
-ghost use Rattle.std.specs.Prelude.{◌≡◌, [], Option, None, Some, IfOk, string_bytes};
-ghost use Rattle.sw_log_text.specs.Answers.{answer_text};
+ghost use Rattle.std.specs.Prelude.{◌≡◌, IfOk};
 ghost use Rattle.sw_scripted.specs.Making.{act_of, move_for, bytes_for, who_for, value_of};
 ghost use Rattle.sw_scripted.specs.Taken.{given_by, text_seen, said};
 
@@ -63,12 +62,7 @@ fn said(who: Who, from: &Taken<'_>) -> Option<Session>
     }
 }
 
-fn send(
-    alloc: Global,
-    who: Who,
-    bytes: &Bytes,
-    from: &Taken<'_>,
-) -> Result<Act, OutOfMemory>
+fn send(alloc: Global, who: Who, bytes: &Bytes, from: &Taken<'_>) -> Result<Act, OutOfMemory>
     ensures { IfOk result (λ a. a ≡ act_of (move_for (given_by from.now) (Move.Send who bytes.now)) (text_seen from.now.answer)) }
 {
     match said(who, from) {
@@ -122,12 +116,7 @@ fn info(who: Who, from: &Taken<'_>) -> Act
     }
 }
 
-fn keyed(
-    alloc: Global,
-    verb: &Verb,
-    key: &Bytes,
-    from: &Taken<'_>,
-) -> Result<Act, OutOfMemory>
+fn keyed(alloc: Global, verb: &Verb, key: &Bytes, from: &Taken<'_>) -> Result<Act, OutOfMemory>
     ensures { IfOk result (λ a. a ≡ act_of (move_for (given_by from.now) (Move.Keyed verb.now key.now)) (text_seen from.now.answer)) }
 {
     let verb = verb.try_copy()?;

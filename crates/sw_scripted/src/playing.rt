@@ -63,11 +63,7 @@ fn kept(alloc: Global, rule: &Rule, bytes: &[u8]) -> Result<Octets, OutOfMemory>
 }
 
 /// The first act of a rule on an event, and its place behind.
-fn first(
-    alloc: Global,
-    rule: &Rule,
-    event: &Event,
-) -> Result<Option<(Act, usize)>, OutOfMemory>
+fn first(alloc: Global, rule: &Rule, event: &Event) -> Result<Option<(Act, usize)>, OutOfMemory>
     ensures { IfOk result (λ a. a ≡ first_due 0 (moves_by event.now (Some rule.now)) []) }
 {
     let bytes = bytes_of(event);
