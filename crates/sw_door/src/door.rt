@@ -1,67 +1,44 @@
 //! The door's state and its turn.
-ghost use Rattle.std.specs.Prelude.{◌≡◌, ◌<◌, ℕ, true, false, if◌then◌else◌};
-ghost use Rattle.sw_door.specs.Door.{Counts, Refuses, Admits, Answered, AcceptsOne, ReadsStop, TellsNext, Goes, Turns, Ports, ports_of, refusal, refusal_cause, reactor_of};
+ghost use Rattle.std.specs.Prelude.{◌≡◌, ◌<◌, if◌then◌else◌};
+ghost use Rattle.sw_door.specs.Door.{IsNew, Looks, Ends};
 
-use sw_base::Counter;
-use sw_data::{Ask, Cause, Ended, Got, Msg, Target, fixed};
-use sw_link::{Accept, Ends, Link, Net};
+use std::alloc::Global;
+use sw_data::{Ask, Got, Msg, Target};
+use sw_link::{Ends, Link, Net};
 use sw_port_board::Board;
-use sw_port_book::{ClaimFault, Desk, Ticketed};
+use sw_port_book::{Desk, Ticketed};
 
-/// The acceptor. Until it ends, one turn reads the stop word, the next accepts, and so on.
+/// The door between two turns.
 #[derive(Drop, Debug)]
 pub struct Door {
-    /// The number of reactors, at least 1.
-    pub reactor_num: u32,
-    /// The number of descriptors, at least 1: a session's is its number modulo this.
+    /// How many descriptors there are, at least 1.
     pub max_conn: u32,
-    /// It accepts no more.
-    pub ending: bool,
-    /// The next turn accepts.
+    /// How many reactors there are, at least 1.
+    pub reactors: u32,
+    /// The next turn accepts; else it reads the stop word.
     pub accepts: bool,
-    /// How many reactors it told that no more comes.
+    /// It accepts no more, and tells the reactors.
+    pub ending: bool,
+    /// To how many reactors NoMore was given.
     pub given: u32,
-    /// The reactor that its last push was for.
+    /// The reactor that the last push was for.
     pub to: u32,
     /// Its ends gave a link back.
     pub lost: bool,
 }
 
-/// Why a link gets no session.
-fn refusal_cause(fault: ClaimFault) -> Cause
-    ensures { result ≡ refusal_cause fault }
-{
-    match fault {
-        ClaimFault::Full(_) => Cause::NoSlot,
-        ClaimFault::Spent => Cause::NumbersSpent,
-    }
-}
-
-/// What is said of a link that gets no session.
-fn refusal(ip: u32, fault: ClaimFault) -> Ended
-    ensures { result ≡ refusal ip fault }
-{
-    Ended {
-        session: None,
-        fd: 0,
-        ip,
-        uid: 0,
-        dispatched: 0,
-        split: 0,
-        cause: refusal_cause(fault),
-    }
-}
-
 impl Door {
     /// A door before its first turn.
-    pub fn new(reactor_num: u32, max_conn: u32) -> Door
-        ensures { result ≡ record { reactor_num = reactor_num; max_conn = max_conn; ending = false; accepts = false; given = 0; to = 0; lost = false } }
+    pub fn new(max_conn: u32, reactors: u32) -> Door
+        requires slots { 0 < max_conn }
+        requires reactors { 0 < reactors }
+        ensures { IsNew max_conn reactors result }
     {
         Door {
-            reactor_num,
             max_conn,
-            ending: false,
+            reactors,
             accepts: false,
+            ending: false,
             given: 0,
             to: 0,
             lost: false,
@@ -75,179 +52,83 @@ impl Door {
         self.lost
     }
 
-    /// A turn. A message that came back is asked for again. Else, until it ends, it reads the stop word or accepts; a link that
-    /// gets no session goes to the ends. Then it tells each reactor that no more comes, one a turn, and is finished. It makes at
-    /// most one call on the net, the desk and the ends, and takes no memory.
-    pub fn turn<
-        L: Link + Drop,
-        K: Ticketed + Drop,
-        N: Net<Link = L>,
-        D: Desk<Ticket = K>,
-        C: Board,
-        E: Ends<L>,
-    >(
-        &mut self,
-        got: Got<Msg<L, K>>,
-        net: &mut N,
-        desk: &mut D,
-        board: &mut C,
-        ends: &mut E,
-    ) -> Ask<Msg<L, K>>
-        requires reactors { 0 < self.old.reactor_num }
-        requires slots { 0 < self.old.max_conn }
-        ensures { Turns (ports_of K.number N.accept_gives D.claim_gives C.goes E.put_gives) self.old got net.old desk.old board.old ends.old result self.new net.new desk.new board.new ends.new }
-    {
-        match got {
-            Got::Full(message) => Ask::Push(Target::Reactor(self.to), message),
-            Got::Start => self.go_on(net, desk, board, ends),
-            Got::Took(_) => self.go_on(net, desk, board, ends),
-            Got::Empty => self.go_on(net, desk, board, ends),
-            Got::Pushed => self.go_on(net, desk, board, ends),
-            Got::Nothing => self.go_on(net, desk, board, ends),
-        }
-    }
-
-    fn go_on<
-        L: Link + Drop,
-        K: Ticketed + Drop,
-        N: Net<Link = L>,
-        D: Desk<Ticket = K>,
-        C: Board,
-        E: Ends<L>,
-    >(&mut self, net: &mut N, desk: &mut D, board: &mut C, ends: &mut E) -> Ask<Msg<L, K>>
-        requires reactors { 0 < self.old.reactor_num }
-        requires slots { 0 < self.old.max_conn }
-        ensures { Goes (ports_of K.number N.accept_gives D.claim_gives C.goes E.put_gives) self.old net.old desk.old board.old ends.old result self.new net.new desk.new board.new ends.new }
-    {
-        if self.ending {
-            self.tell_next()
-        } else if self.accepts {
-            self.accept(net, desk, board, ends)
-        } else {
-            self.read_stop(board)
-        }
-    }
-
-    /// The next reactor is told that no more comes; behind the last one all is over.
-    fn tell_next<L: Drop, K: Drop>(&mut self) -> Ask<Msg<L, K>>
-        ensures { TellsNext self.old result self.new }
-    {
-        if self.given < self.reactor_num {
-            self.to = self.given;
-            self.given += 1;
-            Ask::Push(Target::Reactor(self.to), Msg::NoMore)
-        } else {
-            Ask::Finished
-        }
-    }
-
-    /// Reads the stop word: where it is set the door is ending.
-    fn read_stop<L: Drop, K: Drop, C: Board>(&mut self, board: &mut C) -> Ask<Msg<L, K>>
-        ensures { ReadsStop C.goes self.old board.old result self.new board.new }
+    /// Reads the stop word; where it is set the door is ending.
+    fn look<C: Board, L: Drop, K: Drop>(&mut self, board: &mut C) -> Ask<Msg<L, K>>
+        ensures looks { Looks C.goes self.old board.old result self.new board.new }
+        ensures sizes { C.sizes board.new ≡ C.sizes board.old }
     {
         self.ending = board.stopped();
         self.accepts = true;
         Ask::Nothing
     }
 
-    /// Accepts once.
-    fn accept<
-        L: Link + Drop,
-        K: Ticketed + Drop,
-        N: Net<Link = L>,
-        D: Desk<Ticket = K>,
-        C: Board,
-        E: Ends<L>,
-    >(&mut self, net: &mut N, desk: &mut D, board: &mut C, ends: &mut E) -> Ask<Msg<L, K>>
-        requires reactors { 0 < self.old.reactor_num }
-        requires slots { 0 < self.old.max_conn }
-        ensures { AcceptsOne (ports_of K.number N.accept_gives D.claim_gives C.goes E.put_gives) self.old net.old desk.old board.old ends.old result self.new net.new desk.new board.new ends.new }
+    /// Tells the next reactor that no more comes; once all were told the door is finished.
+    fn end<L: Drop, K: Drop>(&mut self) -> Ask<Msg<L, K>>
+        ensures { Ends self.old result self.new }
     {
-        self.accepts = false;
-        let answer = net.accept();
-        self.take_answer(answer, desk, board, ends)
+        if self.given >= self.reactors {
+            return Ask::Finished;
+        }
+        self.to = self.given;
+        self.given += 1;
+        Ask::Push(Target::Reactor(self.to), Msg::NoMore)
     }
+}
 
-    fn take_answer<L: Link + Drop, K: Ticketed + Drop, D: Desk<Ticket = K>, C: Board, E: Ends<L>>(
+impl Door {
+    ghost use Rattle.std.specs.Prelude.{ℕ, List, ◌++◌};
+    ghost use Rattle.sw_port_book.specs.Claims.{numbers_of};
+    ghost use Rattle.sw_door.specs.Door.{GoesOn, Turns};
+
+    /// A turn. A message that came back is asked for again. Else turns of two kinds alternate: one reads the stop word, the
+    /// next accepts a link, draws its session and asks that it is pushed to its reactor; a link without a session goes to the
+    /// ends. Once the stop word is set, the net is at its end or an accept failed, it tells each reactor, one a turn, that no
+    /// more comes, and then is finished. It makes at most one call on net, desk and ends.
+    pub fn turn<N: Net, D: Desk, C: Board, E: Ends<N::Link>>(
         &mut self,
-        answer: Accept<L>,
+        got: Got<Msg<N::Link, D::Ticket>>,
+        net: &mut N,
         desk: &mut D,
         board: &mut C,
         ends: &mut E,
-    ) -> Ask<Msg<L, K>>
-        requires reactors { 0 < self.old.reactor_num }
+    ) -> Ask<Msg<N::Link, D::Ticket>>
+    where
+        N::Link: Drop,
+        D::Ticket: Drop,
         requires slots { 0 < self.old.max_conn }
-        ensures { Answered K.number D.claim_gives C.goes E.put_gives answer self.old desk.old board.old ends.old result self.new desk.new board.new ends.new }
+        requires reactors { 0 < self.old.reactors }
+        ensures turns { Turns N.accept_gives D.claim_gives D.Ticket.number C.goes E.put_gives self.old net.old desk.old board.old ends.old got self.new net.new desk.new board.new ends.new result }
+        ensures size { D.size desk.new ≡ D.size desk.old }
+        ensures sizes { C.sizes board.new ≡ C.sizes board.old }
     {
-        match answer {
-            Accept::Got(link, ip) => {
-                board.add(Counter::Accepted);
-                let claimed = desk.claim();
-                self.admit(link, ip, claimed, board, ends)
-            }
-            Accept::NotYet => Ask::Rest,
-            Accept::End => {
-                self.ending = true;
-                Ask::Nothing
-            }
-            Accept::Failed => {
-                board.stop();
-                self.ending = true;
-                Ask::Nothing
-            }
+        match got {
+            Got::Full(m) => Ask::Push(Target::Reactor(self.to), m),
+            _ => self.go_on(net, desk, board, ends),
         }
     }
 
-    /// A link goes to its session's reactor, and without a session to the ends.
-    fn admit<L: Drop, K: Ticketed + Drop, C: Board, E: Ends<L>>(
+    fn go_on<N: Net, D: Desk, C: Board, E: Ends<N::Link>>(
         &mut self,
-        link: L,
-        ip: u32,
-        claimed: Result<K, ClaimFault>,
+        net: &mut N,
+        desk: &mut D,
         board: &mut C,
         ends: &mut E,
-    ) -> Ask<Msg<L, K>>
-        requires reactors { 0 < self.old.reactor_num }
+    ) -> Ask<Msg<N::Link, D::Ticket>>
+    where
+        N::Link: Drop,
+        D::Ticket: Drop,
         requires slots { 0 < self.old.max_conn }
-        ensures { Admits K.number C.goes E.put_gives link ip claimed self.old board.old ends.old result self.new board.new ends.new }
+        requires reactors { 0 < self.old.reactors }
+        ensures goes { GoesOn N.accept_gives D.claim_gives D.Ticket.number C.goes E.put_gives self.old net.old desk.old board.old ends.old self.new net.new desk.new board.new ends.new result }
+        ensures size { D.size desk.new ≡ D.size desk.old }
+        ensures sizes { C.sizes board.new ≡ C.sizes board.old }
     {
-        match claimed {
-            Ok(ticket) => {
-                self.to = fixed(ticket.session().number() % self.max_conn, self.reactor_num);
-                Ask::Push(Target::Reactor(self.to), Msg::Fresh(link, ip, ticket))
-            }
-            Err(fault) => {
-                self.refuse(link, ip, fault, board, ends);
-                Ask::Nothing
-            }
+        if self.ending {
+            return self.end();
         }
-    }
-
-    /// A link that gets no session goes to the ends. Where they give it back it is dropped, and the server stops.
-    fn refuse<L: Drop, C: Board, E: Ends<L>>(
-        &mut self,
-        link: L,
-        ip: u32,
-        fault: ClaimFault,
-        board: &mut C,
-        ends: &mut E,
-    )
-        ensures { Refuses C.goes E.put_gives link ip fault self.old board.old ends.old self.new board.new ends.new }
-    {
-        let kept = ends.put(link, refusal(ip, fault)).is_ok();
-        self.count_end(kept, board);
-    }
-
-    fn count_end<C: Board>(&mut self, kept: bool, board: &mut C)
-        ensures counts { Counts C.goes kept board.old board.new }
-        ensures door { self.new ≡ record self.old { lost = (if kept then self.old.lost else true) } }
-    {
-        if kept {
-            board.add(Counter::Ended);
-            return;
+        if !self.accepts {
+            return self.look(board);
         }
-        self.lost = true;
-        board.stop();
-        board.add(Counter::Ended);
+        self.accept(net, desk, board, ends)
     }
 }
