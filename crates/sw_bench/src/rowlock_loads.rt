@@ -99,6 +99,7 @@ fn draw_held<N: Writing, R: Wait>(
     requires call { N.written ≡ (row, value) }
     requires seat { IsSeatOf locks.now seat.old × (seat.old.parts ≡ 1) }
     requires held { (seat.old.row ≡ Some (row, value)) × (seat.old.pool ≡ None) }
+    requires near { row < length locks.now.start.rows }
     ensures seat { IsSeatOf locks.now seat.new × (seat.new.parts ≡ 1) }
     ensures held { (seat.new.row ≡ Some (row, value)) × (seat.new.pool ≡ None) }
 {
