@@ -17,9 +17,9 @@ use Rattle.sw_record.specs.Words.{AcceptedCount, EndedCount}
 use Rattle.sw_world_ports.specs.Calls.{Did, SeesStop}
 use Rattle.sw_world_ports.specs.Made.{accept_in, stop_in, add_in}
 use Rattle.sw_world_laws.specs.Turns.{Ask, AskPush, AskNothing, Got, GotStart, GotTook, GotEmpty, GotPushed, GotFull, GotNothing, Diary, After}
-use Rattle.sw_world_laws.specs.Shows.{DoorShows, fresh_pair, drew_pair, Tells}
+use Rattle.sw_world_laws.specs.Shows.{DoorShows, fresh_pair, drew_pair}
 use Rattle.sw_world_laws.specs.Done.{DoorDone}
-use Rattle.sw_world_door.specs.Doors.{DoorState, DoorGoes, Reads, NotYet, NetEnds, Draws, Refuses, Finishes, DoorTurn, says, IsLinkTo, DoorHolds, DoorQuiet, DoorDoneLaw}
+use Rattle.sw_world_door.specs.Doors.{DoorState, DoorGoes, Reads, NotYet, NetEnds, Draws, Refuses, Finishes, DoorTurn, says, IsLinkTo, DoorHolds, DoorQuiet, DoorDoneLaw, SaysNext}
 
 pairs_more : (d ds : List Did) → collect drew_pair (collect accept_in (d ++ ds)) ≡ collect drew_pair (collect accept_in d) ++ collect drew_pair (collect accept_in ds)
 pairs_more d ds = ap (collect drew_pair) (collect-append accept_in d ds) ∙ collect-append drew_pair (collect accept_in d) (collect accept_in ds)
@@ -105,7 +105,7 @@ goes t s dids u ask d h (Draws ip n e a i j q) =
       accepted = (counted_more d.dids dids (h.accepted, h.refused) (subst Counted (sym i) ((omega arith), (omega arith)))).0;
       refused = (counted_more d.dids dids (h.accepted, h.refused) (subst Counted (sym i) ((omega arith), (omega arith)))).1;
     }))
-goes t s dids u ask d h (Tells e lt i j q) =
+goes t s dids u ask d h (SaysNext e lt i j q) =
     let g : u.given ≡ s.given + 1 = ap (λ (x : DoorState). x.given) j in
     let same : d.dids ++ dids ≡ d.dids = ap (λ (x : List Did). d.dids ++ x) i ∙ append-nil d.dids in
     subst (λ (x : Ask). After (DoorQuiet t) (DoorDoneLaw t) u x (record { took = d.took; pushed = d.pushed; refused = d.refused; dids = d.dids ++ dids })) (sym q)

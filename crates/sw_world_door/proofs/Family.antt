@@ -11,12 +11,12 @@ use Rattle.sw_past.specs.Routes.{IsHand}
 use Rattle.sw_join.proofs.Routes.{is_same}
 use Rattle.sw_world_ports.specs.Calls.{Did, MayDo}
 use Rattle.sw_world_laws.specs.Turns.{Ask, AskTake, AskPush, AskNothing, AskRest, AskFinished, Got, GotStart, GotTook, GotEmpty, GotPushed, GotFull, GotNothing, Diary, no_diary, with_dids, After}
-use Rattle.sw_world_laws.specs.Shows.{Tells, Shows}
+use Rattle.sw_world_laws.specs.Shows.{Shows}
 use Rattle.sw_world_laws.specs.Done.{DoneShows}
 use Rattle.sw_world_laws.specs.Actors.{Feed, Actors}
 use Rattle.sw_world_laws.specs.Account.{untold}
 use Rattle.sw_world_laws.proofs.Locals.{no_hand_door}
-use Rattle.sw_world_door.specs.Doors.{DoorState, new_door, DoorGoes, Reads, NotYet, NetEnds, Draws, Refuses, Tells as TellsAll, Finishes, DoorTurn, DoorHolds, DoorQuiet, DoorDoneLaw}
+use Rattle.sw_world_door.specs.Doors.{DoorState, new_door, DoorGoes, Reads, NotYet, NetEnds, Draws, Refuses, SaysNext, Finishes, DoorTurn, DoorHolds, DoorQuiet, DoorDoneLaw}
 use Rattle.sw_world_door.proofs.Doors.{door_keeps, door_shows, door_done}
 
 -- for the door alone
@@ -29,17 +29,17 @@ DQuiet t y s got d = (y ≡ Door) × DoorQuiet t s got d
 abbrev pub DDone : Terms → ActorId → DoorState → Diary → Type 0
 DDone t y s d = (y ≡ Door) × DoorDoneLaw t s d
 
-door_after : (t : Terms) (y : ActorId) (u : DoorState) (ask : Ask) (d : Diary) → y ≡ Door → After (DoorQuiet t) (DoorDoneLaw t) u ask d → After (DQuiet t y) (DDone t y) u ask d
+pub door_after : (t : Terms) (y : ActorId) (u : DoorState) (ask : Ask) (d : Diary) → y ≡ Door → After (DoorQuiet t) (DoorDoneLaw t) u ask d → After (DQuiet t y) (DDone t y) u ask d
 door_after t y u AskTake d e h = ((e, h.0), λ who m. (e, h.1 who m))
 door_after t y u (AskPush to m) d e h = ((e, h.0), (e, h.1))
 door_after t y u AskNothing d e h = (e, h)
 door_after t y u AskRest d e h = (e, h)
 door_after t y u AskFinished d e h = (e, h)
 
-abbrev Holding : Terms → DoorState → Diary → Type 0
+abbrev pub Holding : Terms → DoorState → Diary → Type 0
 Holding t s d = (hand : Mail) × DoorHolds t s d hand
 
-quiet_holds : (t : Terms) (s : DoorState) (got : Got) (d : Diary) → DoorQuiet t s got d → Holding t s d
+pub quiet_holds : (t : Terms) (s : DoorState) (got : Got) (d : Diary) → DoorQuiet t s got d → Holding t s d
 quiet_holds t s (GotFull m) d h = ((s.to, m) ∷ [], h)
 quiet_holds t s GotStart d h = ([], h)
 quiet_holds t s (GotTook m) d h = ([], h)
@@ -90,7 +90,7 @@ goes_may t s dids u ask (NotYet e a i j q) = subst (Each (MayDo t Door)) (sym i)
 goes_may t s dids u ask (NetEnds e a i j q) = subst (Each (MayDo t Door)) (sym i) (tt, tt)
 goes_may t s dids u ask (Draws ip n e a i j q) = subst (Each (MayDo t Door)) (sym i) (refl, (refl, tt))
 goes_may t s dids u ask (Refuses ip c none e a i j q) = subst (Each (MayDo t Door)) (sym i) (refl, (refl, (inl refl, tt)))
-goes_may t s dids u ask (TellsAll e lt i j q) = subst (Each (MayDo t Door)) (sym i) tt
+goes_may t s dids u ask (SaysNext e lt i j q) = subst (Each (MayDo t Door)) (sym i) tt
 goes_may t s dids u ask (Finishes e ge i j q) = subst (Each (MayDo t Door)) (sym i) tt
 
 turn_may : (t : Terms) (s : DoorState) (got : Got) (dids : List Did) (u : DoorState) (ask : Ask) → DoorTurn t s got dids u ask → Each (MayDo t Door) dids

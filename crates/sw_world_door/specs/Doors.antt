@@ -34,7 +34,7 @@ pub data DoorGoes (t : Terms) (s : DoorState) (dids : List Did) (u : DoorState) 
   Draws : (ip n : ℕ) → s.ending ≡ false → s.accepts ≡ true → dids ≡ Accepts ip (Drew n) ∷ Adds AcceptedCount ∷ [] → u ≡ record s { accepts = false; to = Reactor (reactor_of t n) } → ask ≡ AskPush (Reactor (reactor_of t n)) (FreshMsg ip n) → DoorGoes t s dids u ask
   Refuses : (ip : ℕ) (c : Claim) → drew c ≡ [] → s.ending ≡ false → s.accepts ≡ true → dids ≡ Accepts ip c ∷ Adds AcceptedCount ∷ Adds EndedCount ∷ [] → u ≡ record s { accepts = false } → ask ≡ AskNothing → DoorGoes t s dids u ask
   -- ending, it tells each reactor
-  Tells : s.ending ≡ true → s.given < t.reactor_num → dids ≡ [] → u ≡ record s { given = s.given + 1; to = Reactor s.given } → ask ≡ AskPush (Reactor s.given) NoMore → DoorGoes t s dids u ask
+  SaysNext : s.ending ≡ true → s.given < t.reactor_num → dids ≡ [] → u ≡ record s { given = s.given + 1; to = Reactor s.given } → ask ≡ AskPush (Reactor s.given) NoMore → DoorGoes t s dids u ask
   Finishes : s.ending ≡ true → ¬ (s.given < t.reactor_num) → dids ≡ [] → u ≡ s → ask ≡ AskFinished → DoorGoes t s dids u ask
 
 -- its turn: a push that found no room is asked again
