@@ -1,7 +1,7 @@
 //! The cases one by one, each by its kind.
 
 use crate::case::Case;
-use crate::script;
+use crate::{http, script};
 use std::alloc::Global;
 use sw_base::OutOfMemory;
 
@@ -10,9 +10,10 @@ fn put_case(alloc: Global, out: &mut String, case: &Case) -> Result<(), OutOfMem
         return Ok(());
     }
     writeln!(out, "\ncase {}", case.name)?;
-    let (kind, _words) = case.kind.split_once(" ").unwrap_or((case.kind, ""));
+    let (kind, words) = case.kind.split_once(" ").unwrap_or((case.kind, ""));
     match kind {
         "script" => script::put(alloc, out, case),
+        "http" => http::put(alloc, out, case, words),
         "rules" => script::put_rules(alloc, out, case),
         _ => Ok(out.push_str("no such kind\n")?),
     }

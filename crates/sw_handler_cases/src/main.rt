@@ -5,6 +5,7 @@
 mod answers;
 mod case;
 mod events;
+mod http;
 mod kinds;
 mod script;
 
