@@ -1,20 +1,21 @@
 //! A bucket, as it lies under its lock.
-ghost use Rattle.std.specs.Prelude.{◌≡◌, IfOk};
+ghost use Rattle.std.specs.Prelude.{◌≡◌, [], IfOk};
 ghost use Rattle.sw_table_join.specs.Calls.{empty_bucket};
+ghost use Rattle.sw_bucket.specs.Rows.{rows_by, IsBucket};
 
 use std::alloc::Global;
 use std::marker::Model;
 use std::snapshot::Snapshot;
+use sw_base::OutOfMemory;
 use sw_chain::Chain;
 use sw_column::Schema;
-use sw_base::OutOfMemory;
 
 /// The rows of a bucket, in a box, so that who takes it moves a pointer. Contracts see the columns and the rows by their
 /// keys.
 #[derive(Drop)]
 pub struct Bucket {
-    pub(crate) chain: Box<Chain>,
-    pub(crate) columns: Snapshot<Schema>,
+    chain: Box<Chain>,
+    columns: Snapshot<Schema>,
 }
 
 impl Model for Bucket {
@@ -27,7 +28,7 @@ impl Model for Bucket {
 
     ghost coded = { Prim.hlevel (codes, code) };
 
-    ghost use Rattle.sw_table.specs.Rows.{rows_by, IsBucket};
+    ghost use Rattle.sw_bucket.specs.Rows.{rows_by, IsBucket};
 
     ghost view = { λ b. record { columns = b.columns.value; rows = rows_by b.chain.value } };
 
@@ -36,13 +37,29 @@ impl Model for Bucket {
 
 impl Bucket {
     /// A bucket without rows.
-    pub(crate) fn new(alloc: Global, schema: &Schema) -> Result<Bucket, OutOfMemory>
+    pub fn new(alloc: Global, schema: &Schema) -> Result<Bucket, OutOfMemory>
         ensures { IfOk result (λ b. b ≡ empty_bucket schema.now) }
     {
         let chain = Box::new(alloc, Chain::new())?;
-        Ok(Bucket {
+        Ok(Bucket::of(chain, schema))
+    }
+
+    /// A bucket of these rows, which were packed for these columns.
+    pub fn of(chain: Box<Chain>, schema: &Schema) -> Bucket
+        requires { IsBucket schema.now chain.value }
+        ensures { result ≡ record { columns = schema.now; rows = rows_by chain.value } }
+    {
+        Bucket {
             chain,
             columns: Snapshot::of(schema),
-        })
+        }
+    }
+
+    /// The rows of the bucket.
+    pub fn into_chain(self) -> Box<Chain>
+        ensures rows { self ≡ record { columns = self.columns; rows = rows_by result.value } }
+        ensures sound { IsBucket self.columns result.value }
+    {
+        self.chain
     }
 }

@@ -1,13 +1,12 @@
 //! The key of a call.
-ghost use Rattle.std.specs.Prelude.{◌≡◌, None, Some};
-ghost use Rattle.std.specs.Option.{option_map};
+ghost use Rattle.std.specs.Prelude.{◌≡◌, None, Some, MatchOption};
 ghost use Rattle.sw_table_laws.specs.Laws.{key_of};
 
 use sw_base::Call;
 
 /// The key of a call, if it has one.
 pub fn key_of(call: &Call) -> Option<&[u8]>
-    ensures { option_map (λ k. k.now) result ≡ key_of call.now }
+    ensures { MatchOption result (key_of call.now ≡ None) (λ k. key_of call.now ≡ Some k.now) }
 {
     match call {
         Call::Set(key, _) => Some(key.bytes()),

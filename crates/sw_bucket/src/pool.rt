@@ -20,7 +20,7 @@ impl Model for Pool {
     ghost Value = { PoolNow };
 
     ghost use Rattle.std.specs.Prelude.{length, vec_capacity};
-    ghost use Rattle.sw_table.specs.Rows.{AllAlone};
+    ghost use Rattle.sw_bucket.specs.Rows.{AllAlone};
 
     ghost view = { λ p. record { spare = length p.spare.value.items; room = vec_capacity p.spare.value; last_call = p.last_call } };
 
@@ -29,12 +29,12 @@ impl Model for Pool {
 
 impl Pool {
     /// A pool of so many rows, all of them spare, of a Table that may make so many calls.
-    pub(crate) fn make(alloc: Global, rows: usize, last_call: u64) -> Result<Pool, OutOfMemory>
+    pub fn make(alloc: Global, rows: usize, last_call: u64) -> Result<Pool, OutOfMemory>
         ensures { IfOk result (λ p. p ≡ record { spare = rows; room = rows; last_call = last_call }) }
     {
         let mut spare = Vec::with_capacity(alloc, rows)?;
         for _ in 0..rows {
-            spare.push(Box::new(alloc, Row::new())?)?;
+            spare.push_reserved(Box::new(alloc, Row::new())?);
         }
         Ok(Pool {
             spare: Box::new(alloc, spare)?,
@@ -43,14 +43,14 @@ impl Pool {
     }
 
     /// Whether there is a spare row.
-    pub(crate) fn has_spare(&self) -> bool
+    pub fn has_spare(&self) -> bool
         ensures { result ≡ nat_lt 0 self.now.spare }
     {
         !self.spare.is_empty()
     }
 
     /// Takes a spare row.
-    pub(crate) fn take(&mut self) -> Option<Box<Row>>
+    pub fn take(&mut self) -> Option<Box<Row>>
         ensures some { IfSome result (λ row. (row.value.behind ≡ []) × (0 < self.old.spare)) }
         ensures none { IfNone result (self.old.spare ≡ 0) }
         ensures left { self.new ≡ record self.old { spare = self.old.spare - 1 } }
@@ -59,13 +59,11 @@ impl Pool {
     }
 
     /// Gives a spare row back.
-    pub(crate) fn give(&mut self, row: Box<Row>)
+    pub fn give(&mut self, row: Box<Row>)
         requires alone { row.value.behind ≡ [] }
         requires room { self.old.spare < self.old.room }
         ensures { self.new ≡ record self.old { spare = self.old.spare + 1 } }
     {
-        let Ok(()) = self.spare.push(row) else {
-            unreachable!()
-        };
+        self.spare.push_reserved(row);
     }
 }

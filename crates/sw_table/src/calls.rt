@@ -1,6 +1,5 @@
 //! The calls of the Table, as the locks see them. These types are for the proofs alone.
-use crate::bucket::Bucket;
-use crate::pool::Pool;
+use sw_bucket::{Bucket, Pool};
 use std::marker::{Brand, PhantomData};
 use sw_base::{Cells, Reply};
 use sw_rowlock::{Asked, Called};

@@ -6,9 +6,9 @@ ghost use Rattle.sw_table_laws.specs.Sizes.{raised};
 ghost use Rattle.sw_table_join.specs.Calls.{empty_bucket};
 ghost use Rattle.sw_table_join.specs.Tables.{IsHandsOf};
 
-use crate::bucket::Bucket;
+use sw_bucket::Bucket;
 use crate::hands::Hands;
-use crate::pool::Pool;
+use sw_bucket::Pool;
 use crate::table::{Seat, Table};
 use std::alloc::Global;
 use sw_column::{RowBuf, Schema};

@@ -2,7 +2,7 @@
 ghost use Rattle.std.specs.Prelude.{◌≡◌, ◌<◌, ◌≤◌, ◌+◌, ◌++◌, ◌∷◌, [], length, None, Some};
 ghost use Rattle.sw_rowlock.specs.History.{calls, others, merged, draws_of};
 ghost use Rattle.sw_rowlock.specs.Seats.{IsSeatOf, new_seat};
-ghost use Rattle.sw_table_join.specs.Tables.{IsReady, IsHandsOf};
+ghost use Rattle.sw_table_join.specs.Tables.{IsHandsOf, IsHands};
 
 use crate::table::{Seat, Table};
 use std::marker::Model;
@@ -45,6 +45,14 @@ impl Hands {
         table.locks.join(&mut seat, seen);
         self.made += 1;
         seat
+    }
+
+    /// The seat with the parts that no other seat has.
+    pub(crate) fn into_rest(self) -> Seat
+        ensures rest { IsHands result self.made }
+        ensures of { (result.id ≡ self.id) × (result.start ≡ self.start) }
+    {
+        self.rest
     }
 
     /// How many seats were made.

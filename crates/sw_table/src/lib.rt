@@ -5,25 +5,20 @@
 //! waits but `Table::call`, and nothing takes memory but `create` and `close`.
 #![tactic(auto)]
 
-mod bucket;
 mod calls;
 mod closing;
 mod creating;
 mod desk;
 mod hands;
-mod key;
 mod locks;
-mod pool;
+mod placing;
 mod table;
-mod turn;
-mod work;
 
-pub use bucket::Bucket;
 pub use calls::TableCalls;
 pub use closing::{CloseFault, close};
 pub use creating::create;
 pub use desk::Desk;
 pub use hands::{Hands, Note};
 pub use locks::Locks;
-pub use pool::Pool;
+pub use sw_bucket::{Bucket, Pool};
 pub use table::{Seat, Table};

@@ -2,8 +2,7 @@
 ghost use Rattle.std.specs.Prelude.{◌≡◌, ◌<◌, Some, None, IfOk, IfErr, ◌∷◌, length};
 ghost use Rattle.sw_rowlock.specs.Seats.{IsSeatOf, pool_number};
 
-use crate::bucket::Bucket;
-use crate::pool::Pool;
+use sw_bucket::{Bucket, Pool};
 use crate::table::{Seat, Table};
 
 /// Four calls of a Table's locks. What was taken is given back unchanged.

@@ -1,26 +1,19 @@
 //! The Table, and a call on it.
-ghost use Rattle.std.specs.Prelude.{◌≡◌, ◌<◌, ◌%◌, Some, None, MatchResult, option_map};
-ghost use Rattle.sw_column.specs.Fit.{call_fault};
+ghost use Rattle.std.specs.Prelude.{◌≡◌, ◌<◌, MatchResult};
 ghost use Rattle.sw_column.specs.Values.{HasKinds};
-ghost use Rattle.sw_rowlock.specs.Seats.{all_parts};
-ghost use Rattle.sw_table_laws.specs.Table.{bucket};
-ghost use Rattle.sw_table_laws.specs.Laws.{key_of};
-ghost use Rattle.sw_table_join.specs.Calls.{call_row};
-ghost use Rattle.sw_table_join.specs.Tables.{IsReady, call_on};
+ghost use Rattle.sw_table_join.specs.Tables.{IsReady};
 ghost use Rattle.sw_table_join.specs.Answers.{Answered, Refused};
+ghost use Rattle.sw_table.specs.Waiting.{GivenUp, is_busy};
 
-use crate::bucket::Bucket;
-use crate::calls::{Making, Of, TableCalls};
-use crate::key::key_of;
-use crate::pool::Pool;
-use crate::turn::Turn;
+use crate::calls::TableCalls;
 use crossbeam_utils::Backoff;
 use std::marker::{Brand, Model};
 use std::sync::Wait;
-use sw_column::{RowBuf, Schema, hash};
-use sw_base::{Call, CallFault, Reply, WordId};
+use sw_base::{Call, CallFault};
+use sw_bucket::{Bucket, Pool, key_of};
+use sw_column::{RowBuf, Schema};
 use sw_port_shelf::Placed;
-use sw_rowlock::{Change, DrawFault, Drawn, RowLocks};
+use sw_rowlock::RowLocks;
 
 /// The right to call a Table. It has no bytes.
 ///
@@ -60,10 +53,12 @@ impl Model for Table {
     ghost invariant = { λ t. IsShared (record { columns = t.schema; size = t.size; percent = t.percent; last_call = t.last_call; locks = t.locks }) × (t.blank_row ≡ blank t.schema) };
 }
 
-fn refused(fault: DrawFault) -> CallFault {
+fn is_busy(fault: CallFault) -> bool
+    ensures { result ≡ is_busy fault }
+{
     match fault {
-        DrawFault::Moved(seen) => CallFault::Busy(WordId::Sequence, seen),
-        DrawFault::Spent(calls) => CallFault::Spent(calls),
+        CallFault::Busy(_, _) => true,
+        _ => false,
     }
 }
 
@@ -91,7 +86,7 @@ impl Table {
             return Err(fault);
         }
         match key_of(call) {
-            None => self.count::<Brand>(seat),
+            None => self.count::<Brand>(seat, call),
             Some(key) => self.keyed::<Brand>(seat, call, key, row),
         }
     }
@@ -109,135 +104,22 @@ impl Table {
         requires part { 0 < seat.old.parts }
         requires row { HasKinds self.now.columns row.old }
         ensures seat { IsReady self.now seat.old.parts seat.new }
+        ensures call { MatchResult result
+            (λ placed. Answered self.now seat.old seat.new call.now row.old row.new placed.at placed.reply)
+            (λ fault. GivenUp self.now seat.old seat.new call.now row.old row.new fault) }
         ensures kinds { HasKinds self.now.columns row.new }
     {
         let backoff = Backoff::new();
         for _ in rt.forever() {
             match self.try_call(seat, call, row) {
-                Err(CallFault::Busy(_, _)) => backoff.snooze(),
-                answer => return answer,
+                Ok(placed) => return Ok(placed),
+                Err(fault) => if is_busy(fault) {
+                    backoff.snooze();
+                } else {
+                    return Err(fault);
+                },
             }
         }
         unreachable!()
-    }
-
-    // A call without a key counts the rows: it is drawn with no lock held.
-    fn count<N: Making>(&self, seat: &mut Seat) -> Result<Placed, CallFault> {
-        match self.locks.draw::<Of<N>>(seat, self.last_call, Change::Same) {
-            Ok(drawn) => Ok(Placed {
-                at: drawn.at,
-                reply: Reply::Count(drawn.rows),
-            }),
-            Err(fault) => Err(refused(fault)),
-        }
-    }
-
-    // A call with a key, from its bucket's lock on.
-    fn keyed<N: Making>(
-        &self,
-        seat: &mut Seat,
-        call: &Call,
-        key: &[u8],
-        row: &mut RowBuf,
-    ) -> Result<Placed, CallFault> {
-        let at = hash(key) % self.size;
-        match self.locks.try_row(seat, at) {
-            Err(seen) => Err(CallFault::Busy(WordId::Row(at), seen)),
-            Ok(bucket) => self.in_bucket::<N>(seat, at, bucket, call, row),
-        }
-    }
-
-    // A call whose bucket the seat holds.
-    fn in_bucket<N: Making>(
-        &self,
-        seat: &mut Seat,
-        at: u32,
-        bucket: Bucket,
-        call: &Call,
-        row: &mut RowBuf,
-    ) -> Result<Placed, CallFault> {
-        let turn = bucket.turn(&self.schema, call);
-        if bucket.asks(&turn) {
-            self.with_pool::<N>(seat, at, bucket, turn, call)
-        } else {
-            self.alone::<N>(seat, at, bucket, turn, call, row)
-        }
-    }
-
-    // A call that needs its bucket alone.
-    fn alone<N: Making>(
-        &self,
-        seat: &mut Seat,
-        at: u32,
-        bucket: Bucket,
-        turn: Turn,
-        call: &Call,
-        row: &mut RowBuf,
-    ) -> Result<Placed, CallFault> {
-        let mut bucket = bucket;
-        let change = bucket.change(&turn, false);
-        match self.locks.draw::<Of<N>>(seat, self.last_call, change) {
-            Ok(drawn) => {
-                let reply = bucket.work(&self.schema, &self.blank_row, turn, call, row);
-                self.locks.give_row(seat, at, bucket);
-                Ok(Placed {
-                    at: drawn.at,
-                    reply,
-                })
-            }
-            Err(fault) => {
-                self.locks.give_row(seat, at, bucket);
-                Err(refused(fault))
-            }
-        }
-    }
-
-    // A call that needs the pool, from its lock on.
-    fn with_pool<N: Making>(
-        &self,
-        seat: &mut Seat,
-        at: u32,
-        bucket: Bucket,
-        turn: Turn,
-        call: &Call,
-    ) -> Result<Placed, CallFault> {
-        match self.locks.try_pool(seat) {
-            Err(seen) => {
-                self.locks.give_row(seat, at, bucket);
-                Err(CallFault::Busy(WordId::Pool, seen))
-            }
-            Ok(pool) => self.in_both::<N>(seat, at, bucket, pool, turn, call),
-        }
-    }
-
-    // A call whose bucket and pool the seat holds.
-    fn in_both<N: Making>(
-        &self,
-        seat: &mut Seat,
-        at: u32,
-        bucket: Bucket,
-        pool: Pool,
-        turn: Turn,
-        call: &Call,
-    ) -> Result<Placed, CallFault> {
-        let mut bucket = bucket;
-        let mut pool = pool;
-        let change = bucket.change(&turn, pool.has_spare());
-        match self.locks.draw::<Of<N>>(seat, self.last_call, change) {
-            Ok(drawn) => {
-                let reply = bucket.work_with(&self.schema, &self.blank_row, turn, call, &mut pool);
-                self.locks.give_pool(seat, pool);
-                self.locks.give_row(seat, at, bucket);
-                Ok(Placed {
-                    at: drawn.at,
-                    reply,
-                })
-            }
-            Err(fault) => {
-                self.locks.give_pool(seat, pool);
-                self.locks.give_row(seat, at, bucket);
-                Err(refused(fault))
-            }
-        }
     }
 }

@@ -1,10 +1,10 @@
-//! Callers of the shared Table: two threads that raise one key, and eight over many keys whose run an audit judges.
+//! Callers of the shared Table: two threads that raise one key, and eight over many keys; an audit judges what they kept.
 #![tactic(auto)]
 
 mod crowd;
 mod player;
-mod raising;
+#[cfg(test)]
+mod tests;
 
-pub use crowd::eight;
-pub use player::{Player, calls_over, columns};
-pub use raising::raise_by_two;
+pub use crowd::{eight, two};
+pub use player::Player;

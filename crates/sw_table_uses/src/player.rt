@@ -1,10 +1,14 @@
 //! A thread that makes calls in an order of its own and keeps what they came to.
+ghost use Rattle.std.specs.Prelude.{◌≡◌, ◌<◌, length, IfOk};
+ghost use Rattle.sw_table_uses.specs.Players.{IsPlayer};
+
 use std::alloc::Global;
 use std::sync::Wait;
 use sw_audit::TraceLine;
-use sw_base::{Call, Cells, Key, Name, OutOfMemory, Pairs, Reply, TryCopy, Value};
+use sw_base::{Call, Cells, OutOfMemory, Reply, TryCopy};
 use sw_call::Replied;
-use sw_column::{ColumnFault, Kind, RowBuf, Schema};
+use sw_column::RowBuf;
+use sw_port_shelf::Placed;
 use sw_table::{Seat, Table};
 
 /// A seat with a buffer for rows, who calls, and the lines of its calls so far.
@@ -17,36 +21,6 @@ pub struct Player {
     pub alloc: Global,
 }
 
-/// A column of numbers and one of texts.
-pub fn columns(alloc: Global) -> Result<Schema, ColumnFault> {
-    let mut schema = Schema::new(alloc);
-    schema.column(b"n", Kind::Int, 4)?;
-    schema.column(b"t", Kind::Text, 3)?;
-    Ok(schema)
-}
-
-fn bytes(alloc: Global, text: &[u8]) -> Result<Key, OutOfMemory> {
-    Ok(Key::of(Vec::from_slice(alloc, text)?))
-}
-
-/// A Set, an Incr, a Del and a Get for each of so many keys.
-pub fn calls_over(alloc: Global, keys: u32) -> Result<Vec<Call>, OutOfMemory> {
-    let mut calls = Vec::new(alloc);
-    for at in 0..keys {
-        let text = format!(in alloc; "k{at}")?;
-        let key = Key::of(text.into_bytes());
-        let mut pairs = Pairs::new(alloc);
-        pairs.push((bytes(alloc, b"t")?, Value::Text(bytes(alloc, b"long")?)))?;
-        calls.push(Call::Set(key.copy()?, pairs))?;
-        let name: Name = bytes(alloc, b"n")?;
-        calls.push(Call::Incr(key.copy()?, name, i64::from(at)))?;
-        calls.push(Call::Del(key.copy()?))?;
-        calls.push(Call::Get(key))?;
-    }
-    calls.push(Call::Count)?;
-    Ok(calls)
-}
-
 impl Player {
     /// So many calls out of the list, in an order that the caller's number tells.
     pub fn play<R: Wait>(
@@ -55,35 +29,48 @@ impl Player {
         table: &Table,
         calls: &[Call],
         rounds: u32,
-    ) -> Result<(), OutOfMemory> {
+    ) -> Result<(), OutOfMemory>
+        requires player { IsPlayer table.now self.old }
+        requires some { 0 < length calls.now }
+        ensures { IfOk result (λ _. IsPlayer table.now self.new) }
+    {
         let mut x = self.caller.wrapping_mul(2_654_435_769).wrapping_add(1);
         for _ in 0..rounds {
-            x = x.wrapping_mul(6_364_136_223_846_793_005).wrapping_add(1_442_695_040_888_963_407);
+            x = x
+                .wrapping_mul(6_364_136_223_846_793_005)
+                .wrapping_add(1_442_695_040_888_963_407);
             let at = (x >> 33) as usize % calls.len();
             self.make(rt, table, &calls[at])?;
         }
         Ok(())
     }
 
-    fn make<R: Wait>(&mut self, rt: &R, table: &Table, call: &Call) -> Result<(), OutOfMemory> {
+    // Makes a call, and keeps what it came to.
+    fn make<R: Wait>(&mut self, rt: &R, table: &Table, call: &Call) -> Result<(), OutOfMemory>
+        requires { IsPlayer table.now self.old }
+        ensures { IfOk result (λ _. IsPlayer table.now self.new) }
+    {
         match table.call(rt, &mut self.seat, call, &mut self.row) {
             Err(_) => Ok(()),
-            Ok(placed) => {
-                let cells = match placed.reply {
-                    Reply::Found => self.row.cells()?,
-                    _ => Cells::new(self.alloc),
-                };
-                self.lines.push(TraceLine {
-                    at: placed.at,
-                    caller: self.caller,
-                    call: call.try_copy()?,
-                    replied: Replied {
-                        reply: placed.reply,
-                        cells,
-                    },
-                })?;
-                Ok(())
-            }
+            Ok(placed) => self.keep(call, placed),
         }
+    }
+
+    // Keeps a line.
+    fn keep(&mut self, call: &Call, placed: Placed) -> Result<(), OutOfMemory> {
+        let cells = match placed.reply {
+            Reply::Found => self.row.cells()?,
+            _ => Cells::new(self.alloc),
+        };
+        self.lines.push(TraceLine {
+            at: placed.at,
+            caller: self.caller,
+            call: call.try_copy()?,
+            replied: Replied {
+                reply: placed.reply,
+                cells,
+            },
+        })?;
+        Ok(())
     }
 }

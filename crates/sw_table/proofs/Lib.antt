@@ -1,0 +1,6 @@
+pub mod Drawing
+pub mod Joining
+pub mod Copying
+pub mod Draining
+pub mod Waiting
+pub mod Notes
