@@ -1,5 +1,6 @@
 -- Who calls a Table, and keeps what the calls came to.
-use Rattle.std.specs.Prelude.{◌≡◌, All, None}
+use Rattle.std.specs.Prelude.{◌≡◌, All, None, Result, IfOk}
+use Rattle.sw_base.specs.declared.out_of_memory.OutOfMemory.{OutOfMemory}
 use Rattle.sw_column.specs.Fit.{call_fault}
 use Rattle.sw_column.specs.Values.{HasKinds}
 use Rattle.sw_table_join.specs.Tables.{SharedNow, IsReady}
@@ -11,3 +12,23 @@ pub record IsPlayer (t : SharedNow) (p : Player) : Type 0 where
   pub ready : IsReady t 1 p.seat
   pub kinds : HasKinds t.columns p.row
   pub fit : All (λ (e : TraceLine). call_fault t.columns e.call ≡ None) p.lines.items
+
+-- what came of a player
+abbrev pub Played : Type 0
+Played = Result Player OutOfMemory
+
+abbrev pub IsPlayed : SharedNow → Played → Type 0
+IsPlayed t r = IfOk r (IsPlayer t)
+
+-- of two, and of four
+abbrev pub ArePlayed : SharedNow → Played × Played → Type 0
+ArePlayed t r = IsPlayed t r.0 × IsPlayed t r.1
+
+abbrev pub FourPlayed : SharedNow → (Played × Played) × (Played × Played) → Type 0
+FourPlayed t r = ArePlayed t r.0 × ArePlayed t r.1
+
+abbrev pub ArePlayers : SharedNow → Player × Player → Type 0
+ArePlayers t p = IsPlayer t p.0 × IsPlayer t p.1
+
+abbrev pub FourPlayers : SharedNow → (Player × Player) × (Player × Player) → Type 0
+FourPlayers t p = ArePlayers t p.0 × ArePlayers t p.1

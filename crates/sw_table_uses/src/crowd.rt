@@ -1,7 +1,7 @@
-//! Two and eight threads on one Table.
-ghost use Rattle.std.specs.Prelude.{IfOk};
+//! Two, four and eight threads on one Table.
+ghost use Rattle.std.specs.Prelude.{◌<◌, length};
 ghost use Rattle.std.specs.Thread.{IsSync};
-ghost use Rattle.sw_table_uses.specs.Players.{IsPlayer};
+ghost use Rattle.sw_table_uses.specs.Players.{IsPlayer, IsPlayed, ArePlayers, ArePlayed, FourPlayers, FourPlayed};
 
 use crate::player::Player;
 use std::sync::Wait;
@@ -12,12 +12,16 @@ use sw_table::Table;
 /// What came of a player.
 pub type Played = Result<Player, OutOfMemory>;
 
+/// Two players.
+pub type Pair = (Player, Player);
+
 /// What came of two.
-pub type Pair = (Played, Played);
+pub type Ended = (Played, Played);
 
 fn one<R: Wait>(rt: &R, table: &Table, player: Player, calls: &[Call], rounds: u32) -> Played
-    requires { IsPlayer table.now player }
-    ensures { IfOk result (IsPlayer table.now) }
+    requires player { IsPlayer table.now player }
+    requires some { 0 < length calls.now }
+    ensures { IsPlayed table.now result }
 {
     let mut player = player;
     player.play(rt, table, calls, rounds)?;
@@ -28,25 +32,76 @@ fn one<R: Wait>(rt: &R, table: &Table, player: Player, calls: &[Call], rounds: u
 pub fn two<R: Threads + Wait + Sync>(
     rt: &R,
     table: &Table,
-    a: Player,
-    b: Player,
+    players: Pair,
     calls: &[Call],
     rounds: u32,
-) -> Pair
-    requires first { IsPlayer table.now a }
-    requires second { IsPlayer table.now b }
-    ensures first { IfOk result.0 (IsPlayer table.now) }
-    ensures second { IfOk result.1 (IsPlayer table.now) }
+) -> Ended
+    requires players { ArePlayers table.now players }
+    requires some { 0 < length calls.now }
+    ensures { ArePlayed table.now result }
 {
+    let (a, b) = players;
     join(
         rt,
         move || -> Played
-            requires { IsSync R.row × IsPlayer table.now a }
-            ensures { IfOk result (IsPlayer table.entry.now) }
+            requires { IsSync R.row × IsPlayer table.now a × (0 < length calls.now) }
+            ensures { IsPlayed table.entry.now result }
         { one(rt, table, a, calls, rounds) },
         move || -> Played
-            requires { IsSync R.row × IsPlayer table.now b }
-            ensures { IfOk result (IsPlayer table.entry.now) }
+            requires { IsSync R.row × IsPlayer table.now b × (0 < length calls.now) }
+            ensures { IsPlayed table.entry.now result }
         { one(rt, table, b, calls, rounds) },
+    )
+}
+
+fn four<R: Threads + Wait + Sync>(
+    rt: &R,
+    table: &Table,
+    players: (Pair, Pair),
+    calls: &[Call],
+    rounds: u32,
+) -> (Ended, Ended)
+    requires players { FourPlayers table.now players }
+    requires some { 0 < length calls.now }
+    ensures { FourPlayed table.now result }
+{
+    let (a, b) = players;
+    join(
+        rt,
+        move || -> Ended
+            requires { IsSync R.row × ArePlayers table.now a × (0 < length calls.now) }
+            ensures { ArePlayed table.entry.now result }
+        { two(rt, table, a, calls, rounds) },
+        move || -> Ended
+            requires { IsSync R.row × ArePlayers table.now b × (0 < length calls.now) }
+            ensures { ArePlayed table.entry.now result }
+        { two(rt, table, b, calls, rounds) },
+    )
+}
+
+/// Eight players each make so many calls, in threads of their own.
+pub fn eight<R: Threads + Wait + Sync>(
+    rt: &R,
+    table: &Table,
+    first: (Pair, Pair),
+    second: (Pair, Pair),
+    calls: &[Call],
+    rounds: u32,
+) -> ((Ended, Ended), (Ended, Ended))
+    requires first { FourPlayers table.now first }
+    requires second { FourPlayers table.now second }
+    requires some { 0 < length calls.now }
+    ensures { FourPlayed table.now result.0 × FourPlayed table.now result.1 }
+{
+    join(
+        rt,
+        move || -> (Ended, Ended)
+            requires { IsSync R.row × FourPlayers table.now first × (0 < length calls.now) }
+            ensures { FourPlayed table.entry.now result }
+        { four(rt, table, first, calls, rounds) },
+        move || -> (Ended, Ended)
+            requires { IsSync R.row × FourPlayers table.now second × (0 < length calls.now) }
+            ensures { FourPlayed table.entry.now result }
+        { four(rt, table, second, calls, rounds) },
     )
 }
