@@ -8,6 +8,7 @@ use Rattle.std.specs.Cmp.Lexicographic.{slice_cmp}
 use Rattle.std.specs.FinMap as fin
 use Rattle.std.specs.FinMap.{len-empty}
 use Rattle.std.proofs.lemmas.List.{take_all}
+use Rattle.std.proofs.lemmas.List.Elements.{All-head, All-tail}
 use Rattle.sw_base.specs.declared.table.Value.{Value}
 use Rattle.sw_column.specs.declared.column.Column.{Column}
 use Rattle.sw_column.specs.Fit.{is_key}
@@ -38,21 +39,21 @@ use Rattle.sw_table.specs.Closing.{plain_of, IsFilled, IsCopied, IsDrained}
 sum_room : (f g : ℕ → ℕ) (b n : ℕ) → b < n → ((c : ℕ) → c < n → f c ≤ g c) → f b ≡ 0 → sum_below f n + g b ≤ sum_below g n
 unfolding sum_below
 sum_room f g b zero lt le none = absurd (omega (arith, lt))
-sum_room f g b (suc n) lt le none = by (nat_eq b n) refl
+sum_room f g b (suc n) lt le none = by (nat_eq b n) refl (λ near. sum_room f g b n near (λ c cl. le c (omega (arith, cl))) none)
   where
     sum_less : (k : ℕ) → ((c : ℕ) → c < k → f c ≤ g c) → sum_below f k ≤ sum_below g k
     sum_less zero l = omega arith
     sum_less (suc k) l = let here = l k (omega arith) in let rest = sum_less k (λ c cl. l c (omega (arith, cl))) in omega (arith, here, rest)
-    by : (t : Bool) → nat_eq b n ≡ t → sum_below f n + f n + g b ≤ sum_below g n + g n
-    by true e =
+    by : (t : Bool) → nat_eq b n ≡ t → (b < n → sum_below f n + g b ≤ sum_below g n) → sum_below f n + f n + g b ≤ sum_below g n + g n
+    by true e before =
         let same : b ≡ n = eqb-true b n e in
         let fb : f n ≡ 0 = ap f (sym same) ∙ none in
         let gb : g b ≡ g n = ap g same in
         let rest = sum_less n (λ c cl. le c (omega (arith, cl))) in
         omega (arith, fb, gb, rest)
-    by false e =
+    by false e before =
         let ne : b ≢ n = λ s. true≢false (sym (eq-eqb b n s) ∙ e) in
-        let rest = sum_room f g b n (omega (arith, lt, ne)) (λ c cl. le c (omega (arith, cl))) none in
+        let rest = before (omega (arith, lt, ne)) in
         let here = le n (omega arith) in
         omega (arith, rest, here)
 
@@ -176,3 +177,9 @@ pub fill_all : (t : SharedNow) (rows : State) (plain : PlainTable) → 0 < t.siz
 fill_all t rows plain some f = same_state plain.state rows (λ q.
     let near : bucket t.size q < t.size = omega arith in
     sym (get_own t.size plain.state q) ∙ ap (λ (s : State). fin.get s q) (f.below (bucket t.size q) near) ∙ get_own t.size rows q)
+
+-- what holds of each row holds of the one at a place
+pub all_slice : (P : Packed → Type 0) (rows : List Packed) (i : ℕ) (r : Packed) → All P rows → slice_get rows i ≡ Some r → P r
+all_slice P [] i r all e = absurd (cc)
+all_slice P (x ∷ rows) zero r all e = let same : x ≡ r = cc in subst P same (All-head P x rows all)
+all_slice P (x ∷ rows) (suc i) r all e = all_slice P rows i r (All-tail P x rows all) e

@@ -1,8 +1,9 @@
 -- What a seat with all parts finds: the whole history, and what it leaves.
 use Rattle.std.proofs.Common.{◌≡◌, ℕ, zero, suc, ◌+◌, ◌*◌, ◌<◌, ◌≤◌, List, [], ◌∷◌, ◌++◌, length, Option, Some, None, refl, ap, sym, ◌∙◌, subst, arith}
-use Rattle.std.specs.Prelude.{slice_get}
+use Rattle.std.specs.Prelude.{slice_get, All}
+use Rattle.sw_column.specs.declared.column.Column.{Column}
 use Rattle.std.specs.FinMap as fin
-use Rattle.sw_table_laws.specs.Table.{State, Legal, part, used}
+use Rattle.sw_table_laws.specs.Table.{State, Legal, bucket, part, used}
 use Rattle.sw_table_laws.specs.Buckets.{BucketNow, PoolNow}
 use Rattle.sw_table_laws.proofs.BucketLaws.{rows_bounded}
 use Rattle.sw_rowlock.specs.declared.calls.Contents.{Contents}
@@ -15,9 +16,13 @@ use Rattle.sw_table_join.specs.Calls.{call_row, call_asks, call_does, IsFor}
 use Rattle.sw_table_join.specs.Histories.{history}
 use Rattle.sw_table_join.specs.Tables.{SharedNow, SeatView, IsShared, shape_of, rows_after}
 use Rattle.sw_table_join.proofs.Answering.{left, the_history}
+use Rattle.sw_tmodel.specs.Plain as plains
 use Rattle.sw_tmodel.specs.Plain.{PlainTable}
+use Rattle.sw_row.specs.Packed.{Packed}
+use Rattle.sw_bucket.specs.Rows.{rows_by, IsBucket}
+use Rattle.sw_bucket.proofs.Listed.{len_rows}
 use Rattle.sw_table.specs.Closing.{plain_of, IsFilled, IsDrained}
-use Rattle.sw_table.proofs.Copying.{fill_all}
+use Rattle.sw_table.proofs.Copying.{fill_all, own_keys, fill_room}
 
 append_none : {A : Type 0} (xs : List A) → xs ++ [] ≡ xs
 append_none [] = refl
@@ -77,4 +82,32 @@ is_drained t seat new at filled plain is l f e =
       legal = l.legal;
       learnt = l.learnt;
       left = e ∙ ap (λ (p : PlainTable). record p { calls = at }) f.like ∙ (λ i. plain_of t (l.count i) (rows i));
+    }
+
+-- what is known of a bucket that is taken with all parts, and of the plain Table that it goes into
+pub record Ready (t : SharedNow) (seen : List (ℕ × TableCall)) (at : ℕ) (rows : List Packed) (plain : PlainTable) : Type 0 where
+  pub bucket_is : IsBucket t.columns rows
+  pub same : rows_by rows ≡ part t.size (rows_after t (calls seen)) at
+  pub columns : plain.columns ≡ t.columns
+  pub near : at < plain.size
+  pub own : All (λ (r : Packed). bucket plain.size r.key ≡ at) rows
+  pub none : part plain.size plain.state at ≡ fin.empty
+  pub room : used plain.size plain.state + length rows ≤ (plains.shape_of plain).pool + 1
+
+pub ready : (t : SharedNow) (seat : SeatView) (at : ℕ) (x : BucketNow) (rows : List Packed) (plain : PlainTable) → IsShared t → at < t.size → seat.parts ≡ all_parts → RowLeft IsFor call_row call_asks call_does t.locks.start seat at x
+    → x ≡ record { columns = x.columns; rows = rows_by rows } → IsBucket x.columns rows → IsFilled t (rows_after t (calls seat.seen)) at plain → Ready t seat.seen at rows plain
+ready t seat at x rows plain is near parts left made sound f =
+    let whole = whole_bucket t seat at x is near parts left in
+    let b : IsBucket t.columns rows = subst (λ (cs : List Column). IsBucket cs rows) (ap (λ (y : BucketNow). y.columns) whole) sound in
+    let same : rows_by rows ≡ part t.size (rows_after t (calls seat.seen)) at = sym (ap (λ (y : BucketNow). y.rows) made) ∙ ap (λ (y : BucketNow). y.rows) whole in
+    let size : t.size ≡ plain.size = sym (ap (λ (p : PlainTable). p.size) f.like) in
+    let len : length rows ≡ fin.len (part t.size (rows_after t (calls seat.seen)) at) = sym (len_rows t.columns rows b) ∙ ap fin.len same in
+    record {
+      bucket_is = b;
+      same = same;
+      columns = ap (λ (p : PlainTable). p.columns) f.like;
+      near = subst (λ (n : ℕ). at < n) size near;
+      own = subst (λ (n : ℕ). All (λ (r : Packed). bucket n r.key ≡ at) rows) size (own_keys t.columns t.size at (rows_after t (calls seat.seen)) rows b same);
+      none = ap (λ (n : ℕ). part n plain.state at) (sym size) ∙ f.above at (omega arith);
+      room = fill_room t (rows_after t (calls seat.seen)) at (length rows) plain f near (not_overdrawn t (calls seat.seen) is) len;
     }

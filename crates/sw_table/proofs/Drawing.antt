@@ -343,12 +343,3 @@ room_as v at lt = subst (λ (y : SharedNow). at < y.last_call) v lt
 pub may_as : {x t : SharedNow} (v : x ≡ t) (call : Call) (q : TableCall) → q ≡ call_on t call → IsShared t → call_fault t.columns call ≡ None → (at : ℕ) → at < x.last_call → IsFor x.locks.start at q
 may_as {t = t} v call q made is fit at lt =
     subst (λ (y : SharedNow). IsFor y.locks.start at q) (sym v) (subst (λ (z : TableCall). IsFor t.locks.start at z) (sym made) (may_have t call at is fit (room_as v at lt)))
-
-pub row_as : {t : SharedNow} (call : Call) (q : TableCall) (row : Option (ℕ × BucketNow)) → q ≡ call_on t call → HoldsRow (call_row (call_on t call)) row → HoldsRow (call_row q) row
-row_as call q row made h = subst (λ (z : TableCall). HoldsRow (call_row z) row) (sym made) h
-
-pub pool_as : {t : SharedNow} (call : Call) (q : TableCall) (row : Option (ℕ × BucketNow)) (pool : Option PoolNow) → q ≡ call_on t call → HoldsPool (call_asks (call_on t call) (bucket_held (call_row (call_on t call)) row)) pool → HoldsPool (call_asks q (bucket_held (call_row q) row)) pool
-pool_as call q row pool made h = subst (λ (z : TableCall). HoldsPool (call_asks z (bucket_held (call_row z) row)) pool) (sym made) h
-
-pub change_as : {t : SharedNow} (call : Call) (q : TableCall) (row : Option (ℕ × BucketNow)) (pool : Option PoolNow) (c : ℕ) (change : Change) → q ≡ call_on t call → (done_on call_row call_asks call_does (call_on t call) row pool c).change ≡ change → (done_on call_row call_asks call_does q row pool c).change ≡ change
-change_as call q row pool c change made e = subst (λ (z : TableCall). (done_on call_row call_asks call_does z row pool c).change ≡ change) (sym made) e

@@ -1,12 +1,12 @@
 -- Seats joined into one: whose calls it has, and what it has learnt.
-use Rattle.std.proofs.Common.{◌≡◌, ◌≢◌, ℕ, zero, suc, ◌+◌, ◌*◌, ◌<◌, ◌≤◌, List, [], ◌∷◌, ◌++◌, length, replicate, All, Option, Some, None, refl, ap, sym, ◌∙◌, subst, arith}
+use Rattle.std.proofs.Common.{◌≡◌, ◌≢◌, ℕ, zero, suc, ◌+◌, ◌*◌, ◌<◌, ◌≤◌, List, [], ◌∷◌, ◌++◌, length, replicate, All, Option, Some, None, refl, ap, sym, ◌∙◌, subst, arith, append_assoc}
 use Rattle.std.specs.Prelude.{sum_by}
-use Rattle.std.proofs.lemmas.List.Elements.{All-nil, All-cons}
+use Rattle.std.proofs.lemmas.List.Elements.{All-nil, All-cons, All-head, All-tail}
 use Rattle.std.proofs.lemmas.List.Sums.{sum_by-cons}
 use Rattle.sw_rowlock.specs.History.{below, calls, others, merged, Begins, AllBegin, times_drawn, draws_from, draws_of, placed_from, DrewAll}
-use Rattle.sw_rowlock.specs.Seats.{IsSeatOf}
+use Rattle.sw_rowlock.specs.Seats.{IsSeatOf, all_parts}
 use Rattle.sw_table_join.specs.declared.table_call.TableCall.{TableCall}
-use Rattle.sw_table_join.specs.Tables.{SharedNow, SeatView, IsReady}
+use Rattle.sw_table_join.specs.Tables.{SharedNow, SeatView, IsReady, IsHands}
 use Rattle.sw_table.specs.Closing.{IsJoined, IsDrained, Closed, times_by_all}
 
 module _ {Q : Type 0} where
@@ -99,4 +99,47 @@ closed t rest seats seat plain none j d = record {
       let c = drew_once seat.seen d.drew p in
       omega (arith, a, b, c);
   left = d.left;
+}
+
+-- ---- one seat after the other, the last one first
+
+all_mid : (P : SeatView → Type 0) (xs ys : List SeatView) (x : SeatView) → All P (xs ++ x ∷ ys) → P x
+all_mid P [] ys x all = All-head P x ys all
+all_mid P (y ∷ xs) ys x all = all_mid P xs ys x (All-tail P y (xs ++ x ∷ ys) all)
+
+-- the seats that were joined, which stand behind those that are left
+pub record Joining (t : SharedNow) (rest : SeatView) (all left : List SeatView) (seat : SeatView) : Type 0 where
+  pub done : List SeatView
+  pub parted : all ≡ left ++ done
+  pub joined : IsJoined t rest done seat
+
+pub join_start : (t : SharedNow) (rest : SeatView) (all : List SeatView) → IsSeatOf t.locks rest → rest.row ≡ None → rest.pool ≡ None → Joining t rest all all rest
+join_start t rest all of row pool = record { done = []; parted = sym (end all); joined = join_none t rest of row pool }
+  where
+    end : (xs : List SeatView) → xs ++ [] ≡ xs
+    end [] = refl
+    end (x ∷ xs) = ap (λ (ys : List SeatView). x ∷ ys) (end xs)
+
+pub join_next : (t : SharedNow) (rest : SeatView) (all left less : List SeatView) (seat other new : SeatView) (refusals : List (ℕ × ℕ)) → All (IsReady t 1) all → Joining t rest all left seat → left ≡ less ++ other ∷ []
+    → new ≡ record seat { parts = seat.parts + other.parts; seen = merged seat.seen other.seen; refusals = refusals; also = seat.also ++ (other.also ++ calls other.seen ∷ []) }
+    → ((p : ℕ) → times_drawn p new.seen ≡ times_drawn p seat.seen + times_drawn p other.seen) → Joining t rest all less new
+join_next t rest all left less seat other new refusals ready j popped e draws =
+    let parted : all ≡ less ++ other ∷ j.done = j.parted ∙ ap (λ (xs : List SeatView). xs ++ j.done) popped ∙ append_assoc less (other ∷ []) j.done in
+    record {
+      done = other ∷ j.done;
+      parted = parted;
+      joined = join_one t rest j.done seat other new refusals j.joined (all_mid (IsReady t 1) less j.done other (subst (All (IsReady t 1)) parted ready)) e draws;
+    }
+
+pub join_end : (t : SharedNow) (rest : SeatView) (all left : List SeatView) (seat : SeatView) → Joining t rest all left seat → length left ≡ 0 → IsJoined t rest all seat
+join_end t rest all [] seat j e = subst (λ (xs : List SeatView). IsJoined t rest xs seat) (sym j.parted) j.joined
+join_end t rest all (x ∷ left) seat j e = absurd (omega (arith, e))
+
+-- all seats and the rest of the hands have all parts
+pub all_ready : (t : SharedNow) (rest : SeatView) (made : ℕ) (seats : List SeatView) (seat : SeatView) → IsHands rest made → made ≡ length seats → IsJoined t rest seats seat → IsReady t all_parts seat
+all_ready t rest made seats seat h e j = record {
+  of = j.of;
+  has = let a = h.parts in let b = j.parts in omega (arith, a, b, e);
+  no_row = j.no_row;
+  no_pool = j.no_pool;
 }

@@ -4,4 +4,4 @@ pub mod Copying
 pub mod Draining
 pub mod Waiting
 pub mod Notes
-pub mod Creating
+pub mod Made

@@ -33,6 +33,7 @@ pub fn create(
     ensures hands { IfOk result (λ r. IsHandsOf r.0 r.1 × (r.1.made ≡ 1)) }
     ensures seat { IfOk result (λ r. r.2 ≡ new_seat r.0.locks 1 [] []) }
 {
+    schema.is_sound();
     let size = raised(size);
     let pool = Pool::make(alloc, (size * percent / 100) as usize, last_call)?;
     let rows = buckets(alloc, &schema, size)?;

@@ -49,8 +49,9 @@ impl Model for Table {
 
     ghost use Rattle.std.specs.Prelude.{◌≡◌};
     ghost use Rattle.sw_column.specs.Values.{blank};
+    ghost use Rattle.sw_table_laws.specs.Sizes.{raised};
 
-    ghost invariant = { λ t. IsShared (record { columns = t.schema; size = t.size; percent = t.percent; last_call = t.last_call; locks = t.locks }) × (t.blank_row ≡ blank t.schema) };
+    ghost invariant = { λ t. IsShared (record { columns = t.schema; size = t.size; percent = t.percent; last_call = t.last_call; locks = t.locks }) × (t.blank_row ≡ blank t.schema) × (raised t.size ≡ t.size) };
 }
 
 fn is_busy(fault: CallFault) -> bool
