@@ -119,12 +119,12 @@ second_rows (h ∷ rest) r some is =
     let both = second_missed h r rest is in
     let es : List Entry = map entry_of rest in
     same_state _ _ (λ q.
-        get_listed (entry_of h ∷ entry_of r ∷ es) q
-        ∙ first q (entry_of h) (entry_of r ∷ es)
-        ∙ ap (λ o. cond (bytes_eq q h.key) (Some h.values) o) (first q (entry_of r) es)
-        ∙ swap (bytes_eq q h.key) (bytes_eq q r.key) (Some h.values) (Some r.values) (lookup q es) (not_both q h.key r.key both.0)
-        ∙ ap (λ o. cond (bytes_eq q r.key) (Some r.values) o) (sym (get_listed (entry_of h ∷ es) q ∙ first q (entry_of h) es))
-        ∙ sym (get_inserted (rows_by (h ∷ rest)) r.key r.values q))
+    get_listed (entry_of h ∷ entry_of r ∷ es) q
+    ∙ first q (entry_of h) (entry_of r ∷ es)
+    ∙ ap (λ o. cond (bytes_eq q h.key) (Some h.values) o) (first q (entry_of r) es)
+    ∙ swap (bytes_eq q h.key) (bytes_eq q r.key) (Some h.values) (Some r.values) (lookup q es) (not_both q h.key r.key both.0)
+    ∙ ap (λ o. cond (bytes_eq q r.key) (Some r.values) o) (sym (get_listed (entry_of h ∷ es) q ∙ first q (entry_of h) es))
+    ∙ sym (get_inserted (rows_by (h ∷ rest)) r.key r.values q))
 
 pub second_bucket : (cs : List Column) (rows : List Packed) (r : Packed) → IsBucket cs rows → 0 < length rows → found rows r.key ≡ None → IsPacked cs r → IsBucket cs (with_second rows r)
 second_bucket cs [] r b some is p = absurd (omega (arith, some))
@@ -243,6 +243,7 @@ len_first cs rows i b le =
         missed_entry : (t : Bool) (v : List Value) (o : Option (List Value)) → cond t (Some v) o ≡ None → (t ≡ false) × (o ≡ None)
         missed_entry true v o e = absurd (cc)
         missed_entry false v o e = (refl, e)
+
     first_distinct : (es : List Entry) (n : ℕ) → Distinct es → Distinct (take n es)
     first_distinct es zero d = tt
     first_distinct [] (suc n) d = tt

@@ -126,18 +126,20 @@ pub fn work_with(
         Turn::Show(_) => Reply::Found,
         Turn::Remove => take_back(chain, schema, call, key, pool),
         Turn::Write(_) => set_behind(chain, schema, blank_row, call, key, pool),
-        Turn::Number(_, column, n) => count_behind(chain, schema, blank_row, (column, n), call, key, pool),
+        Turn::Number(_, column, n) => count_behind(
+            chain,
+            schema,
+            blank_row,
+            (column, n),
+            call,
+            key,
+            pool,
+        ),
     }
 }
 
 // A Del that leaves a spare row.
-fn take_back(
-    chain: &mut Chain,
-    schema: &Schema,
-    call: &Call,
-    key: &[u8],
-    pool: &mut Pool,
-) -> Reply
+fn take_back(chain: &mut Chain, schema: &Schema, call: &Call, key: &[u8], pool: &mut Pool) -> Reply
     requires bucket { IsBucket schema.now chain.old }
     requires turn { Removes schema.now chain.old call.now }
     requires keyed { key_of call.now ≡ Some key.now }

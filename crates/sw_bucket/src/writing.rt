@@ -15,7 +15,13 @@ use sw_column::{RowBuf, Schema};
 use sw_row::{Row, offset};
 
 /// The place of a key's row: the one that was found, or a new first row.
-pub fn place(chain: &mut Chain, schema: &Schema, blank_row: &RowBuf, at: Option<u32>, key: &[u8]) -> u32
+pub fn place(
+    chain: &mut Chain,
+    schema: &Schema,
+    blank_row: &RowBuf,
+    at: Option<u32>,
+    key: &[u8],
+) -> u32
     requires bucket { IsBucket schema.now chain.old }
     requires key { IsTrue (is_key key.now) }
     requires found { found chain.old key.now ≡ at }

@@ -44,6 +44,7 @@ sum_room f g b (suc n) lt le none = by (nat_eq b n) refl (λ near. sum_room f g 
     sum_less : (k : ℕ) → ((c : ℕ) → c < k → f c ≤ g c) → sum_below f k ≤ sum_below g k
     sum_less zero l = omega arith
     sum_less (suc k) l = let here = l k (omega arith) in let rest = sum_less k (λ c cl. l c (omega (arith, cl))) in omega (arith, here, rest)
+
     by : (t : Bool) → nat_eq b n ≡ t → (b < n → sum_below f n + g b ≤ sum_below g n) → sum_below f n + f n + g b ≤ sum_below g n + g n
     by true e before =
         let same : b ≡ n = eqb-true b n e in
@@ -117,14 +118,17 @@ own_keys cs size at s rows b e = λ k d lt. own_at k d lt
     in_part : (t : Bool) (o : Option (List Value)) (v : List Value) → cond t o None ≡ Some v → t ≡ true
     in_part true o v e = refl
     in_part false o v e = absurd (cc)
+
     own_row : (k : ℕ) → k < length rows → bucket size (row_at rows k).key ≡ at
     own_row k lt = eqb-true (bucket size (row_at rows k).key) at
         (in_part (nat_eq (bucket size (row_at rows k).key) at) (fin.get s (row_at rows k).key) (row_at rows k).values
         (sym (get_part size s at (row_at rows k).key) ∙ ap (λ (m : State). fin.get m (row_at rows k).key) (sym e) ∙ get_at cs rows k b lt))
+
     same_at : (xs : List Packed) (k : ℕ) (d : Packed) → k < length xs → row_at xs k ≡ get_or xs k d
     same_at [] k d lt = absurd (omega (arith, lt))
     same_at (x ∷ xs) zero d lt = refl
     same_at (x ∷ xs) (suc k) d lt = same_at xs k d (omega arith)
+
     own_at : (k : ℕ) (d : Packed) → k < length rows → bucket size (get_or rows k d).key ≡ at
     own_at k d lt = subst (λ (r : Packed). bucket size r.key ≡ at) (same_at rows k d lt) (own_row k lt)
 
@@ -147,6 +151,7 @@ fill_room t rows at n plain f near most e =
   where
     none : (c : ℕ) → at ≤ c → fin.len (part t.size plain.state c) ≡ 0
     none c le = ap fin.len (f.above c le) ∙ len-empty (slice_cmp nat_cmp) (List Value)
+
     less : (c : ℕ) → fin.len (part t.size plain.state c) - 1 ≤ fin.len (part t.size rows c) - 1
     less c = by (nat_lt c at) refl
       where
@@ -167,6 +172,7 @@ fill_more t rows at chain plain new f e c =
   where
     less_self : (b n : ℕ) → n + 1 ≤ b → b ≡ n → ⊥
     less_self b n le same = absurd (omega (arith, le, same))
+
     by : (b : ℕ) → b < at + 1 → (x : Bool) → nat_eq b at ≡ x → part t.size new.state at ≡ part t.size rows at → ((k : ℕ) → k ≢ at → part t.size new.state k ≡ part t.size plain.state k) → part t.size new.state b ≡ part t.size rows b
     by b lt true is here others = let same : b ≡ at = eqb-true b at is in ap (part t.size new.state) same ∙ here ∙ ap (part t.size rows) (sym same)
     by b lt false is here others =

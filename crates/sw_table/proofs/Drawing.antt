@@ -68,7 +68,18 @@ drew_of t call old new at n d of = (ap (λ (w : SeatView). w.id) d.now ∙ of.0,
 -- an answer for a seat that held locks, as one for the seat without them
 answered_free : (t : SharedNow) (old new : SeatView) (call : Call) (row row' : List Value) (at : ℕ) (reply : Reply) → Answered t old new call row row' at reply → Answered t (free old) new call row row' at reply
 answered_free t old new call row row' at reply a = record {
-  between = a.between; seen = a.seen; learnt = a.learnt; fit = a.fit; place = a.place; room = a.room; draws = a.draws; rises = a.rises; once = a.once; legal = a.legal; told = a.told; shows = a.shows;
+  between = a.between;
+  seen = a.seen;
+  learnt = a.learnt;
+  fit = a.fit;
+  place = a.place;
+  room = a.room;
+  draws = a.draws;
+  rises = a.rises;
+  once = a.once;
+  legal = a.legal;
+  told = a.told;
+  shows = a.shows;
 }
 
 -- ---- a refused draw

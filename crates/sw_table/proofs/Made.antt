@@ -11,7 +11,11 @@ use Rattle.sw_table_laws.specs.Sizes.{raised, pool_of}
 use Rattle.sw_table_laws.specs.Laws.{IsRaised}
 use Rattle.sw_table_laws.specs.Buckets.{BucketNow, PoolNow}
 use Rattle.sw_table_laws.proofs.RaisedLaws.{size_is_raised}
+use Rattle.sw_rowlock.specs.declared.calls.Contents.{Contents}
+use Rattle.sw_rowlock.specs.Calls.{contents}
+use Rattle.sw_rowlock.specs.Seats.{LocksNow}
 use Rattle.sw_table_join.specs.Calls.{empty_bucket, IsEmptyTable}
+use Rattle.sw_table_join.specs.Tables.{IsShared}
 
 -- a power of two below 2^20 is 2^19 at most
 power_by : (b : Bool) (k size : ℕ) → nat_le k 19 ≡ b → size ≡ 2 ^ k → size < 1048576 → size ≤ 524288
@@ -93,3 +97,25 @@ made_empty rows pool cs size n percent last_call made is le most e =
 
 pub made_few : (rows : List BucketNow) (cs : List Column) (size n : ℕ) → rows ≡ replicate size (empty_bucket cs) → size ≡ raised n → n ≤ 524288 → length rows ≤ 524288
 made_few rows cs size n made is le = subst (λ k. k ≤ 524288) (sym (ap length made ∙ length-replicate size _ ∙ is)) (raised_few n le)
+
+pub raised_stays : (size n : ℕ) → size ≡ raised n → n ≤ 524288 → raised size ≡ size
+raised_stays size n is le = ap raised is ∙ raised_again n le ∙ sym is
+
+pub shared_made : (cs : List Column) (size n percent last_call : ℕ) (locks : LocksNow BucketNow PoolNow) (rows : List BucketNow) (pool : PoolNow) → IsSchema cs → rows ≡ replicate size (empty_bucket cs) → size ≡ raised n → n ≤ 524288 → percent ≤ 100 → last_call ≤ 8796093022207
+    → pool ≡ record { spare = size * percent / 100; room = size * percent / 100; last_call = last_call } → locks.start ≡ contents rows pool 0 → IsShared (record { columns = cs; size = size; percent = percent; last_call = last_call; locks = locks })
+shared_made cs size n percent last_call locks rows pool sound made is le most last e start =
+    let few : size ≤ 524288 = subst (λ k. k ≤ 524288) (sym is) (raised_few n le) in
+    let least : 64 ≤ size = subst (λ k. 64 ≤ k) (sym is) (size_is_raised n le).least in
+    record {
+      starts = (
+        ap (λ (c : Contents BucketNow PoolNow). c.rows) start ∙ made,
+        ap (λ (c : Contents BucketNow PoolNow). c.pool) start ∙ e,
+        ap (λ (c : Contents BucketNow PoolNow). c.count) start,
+        omega (arith, least),
+      );
+      schema = sound;
+      few = few;
+      percent = most;
+      pool = pool_few size percent few most;
+      last = last;
+    }

@@ -42,6 +42,6 @@ pub seat_made : (l : LocksNow BucketNow PoolNow) (rest from s n new : SeatView) 
 seat_made l rest from s n new seen also es en e =
     let bare : s ≡ new_seat l 1 [] [] = es ∙ (λ i. new_seat l 1 (others (calls (seen i))) (also i)) in
     let both : record s { parts = s.parts + n.parts; seen = merged s.seen n.seen; refusals = s.refusals ++ n.refusals; also = s.also ++ (n.also ++ calls n.seen ∷ []) }
-        ≡ new_seat l 1 (others (calls from.seen)) (from.also ++ calls (others (calls from.seen)) ∷ []) =
+    ≡ new_seat l 1 (others (calls from.seen)) (from.also ++ calls (others (calls from.seen)) ∷ []) =
     λ i. record (bare i) { parts = (bare i).parts + (en i).parts; seen = merged (bare i).seen (en i).seen; refusals = (bare i).refusals ++ (en i).refusals; also = (bare i).also ++ ((en i).also ++ calls (en i).seen ∷ []) } in
     e ∙ both ∙ ap (λ (qs : List TableCall). new_seat l 1 (others (calls from.seen)) (from.also ++ qs ∷ [])) (calls_others (calls from.seen))

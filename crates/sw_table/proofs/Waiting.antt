@@ -71,11 +71,15 @@ start_unchanged (Some own) s = refl
 
 none_left : (t : SharedNow) (old mid new : SeatView) (call : Call) (fault : CallFault) → is_busy fault ≡ false → Waited old mid → NotPlaced t mid new call fault → GivenUpFor None t old new fault
 none_left t old mid new call (Busy word found) e w n = absurd (cc)
-none_left t old mid new call (Spent made) e w n = (made, refl, record {
-  waited = waited_more old mid new n.between w (ap (λ (s : SeatView). s.seen) n.now) (ap (λ (s : SeatView). s.also) n.now);
-  count = n.count ∙ ap (λ (qs : List TableCall). length qs) (sym (ap (λ (s : SeatView). calls s.seen) n.now ∙ calls_look mid.seen n.between));
-  at_end = n.at_end;
-})
+none_left t old mid new call (Spent made) e w n = (
+  made,
+  refl,
+  record {
+    waited = waited_more old mid new n.between w (ap (λ (s : SeatView). s.seen) n.now) (ap (λ (s : SeatView). s.also) n.now);
+    count = n.count ∙ ap (λ (qs : List TableCall). length qs) (sym (ap (λ (s : SeatView). calls s.seen) n.now ∙ calls_look mid.seen n.between));
+    at_end = n.at_end;
+  },
+)
 none_left t old mid new call BadKey e w n = absurd n
 none_left t old mid new call NoColumn e w n = absurd n
 none_left t old mid new call NotInt e w n = absurd n

@@ -1,7 +1,7 @@
 //! The calls of the Table, as the locks see them. These types are for the proofs alone.
-use sw_bucket::{Bucket, Pool};
 use std::marker::{Brand, PhantomData};
 use sw_base::{Cells, Reply};
+use sw_bucket::{Bucket, Pool};
 use sw_rowlock::{Asked, Called};
 use sw_table_join::TableCall;
 

@@ -114,7 +114,9 @@ fn drain(table: &Table, seat: &mut Seat, at: u32, row: &mut RowBuf, plain: &mut 
     };
     let chain = bucket.into_chain();
     copy_rows(&chain, &table.schema, at, row, plain);
-    table.locks.give_row(seat, at, Bucket::of(chain, &table.schema));
+    table
+        .locks
+        .give_row(seat, at, Bucket::of(chain, &table.schema));
 }
 
 // Copies the rows of a bucket into a plain Table that has none of them yet.

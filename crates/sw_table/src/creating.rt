@@ -6,13 +6,12 @@ ghost use Rattle.sw_table_laws.specs.Sizes.{raised};
 ghost use Rattle.sw_table_join.specs.Calls.{empty_bucket};
 ghost use Rattle.sw_table_join.specs.Tables.{IsHandsOf};
 
-use sw_bucket::Bucket;
 use crate::hands::Hands;
-use sw_bucket::Pool;
 use crate::table::{Seat, Table};
 use std::alloc::Global;
-use sw_column::{RowBuf, Schema};
 use sw_base::OutOfMemory;
+use sw_bucket::{Bucket, Pool};
+use sw_column::{RowBuf, Schema};
 use sw_rowlock::{OnePart, RowLocks};
 use sw_tmodel::raised;
 

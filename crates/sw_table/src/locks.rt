@@ -2,8 +2,8 @@
 ghost use Rattle.std.specs.Prelude.{◌≡◌, ◌<◌, Some, None, IfOk, IfErr, ◌∷◌, length};
 ghost use Rattle.sw_rowlock.specs.Seats.{IsSeatOf, pool_number};
 
-use sw_bucket::{Bucket, Pool};
 use crate::table::{Seat, Table};
+use sw_bucket::{Bucket, Pool};
 
 /// Four calls of a Table's locks. What was taken is given back unchanged.
 pub struct Locks<'a> {

@@ -31,11 +31,7 @@ fn refused(fault: DrawFault) -> CallFault
 
 impl Table {
     // A call without a key counts the rows: it is drawn with no lock held.
-    pub(crate) fn count<N: Making>(
-        &self,
-        seat: &mut Seat,
-        call: &Call,
-    ) -> Result<Placed, CallFault>
+    pub(crate) fn count<N: Making>(&self, seat: &mut Seat, call: &Call) -> Result<Placed, CallFault>
         requires made { N.made ≡ call_on self.now call.now }
         requires seat { IsReady self.now seat.old.parts seat.old }
         requires part { 0 < seat.old.parts }
@@ -131,15 +127,25 @@ impl Table {
         let change = change(&chain, turn, false);
         match self.locks.draw::<Of<N>>(seat, self.last_call, change) {
             Ok(drawn) => {
-                let reply = work(&mut chain, &self.schema, &self.blank_row, turn, call, key, row);
-                self.locks.give_row(seat, at, Bucket::of(chain, &self.schema));
+                let reply = work(
+                    &mut chain,
+                    &self.schema,
+                    &self.blank_row,
+                    turn,
+                    call,
+                    key,
+                    row,
+                );
+                self.locks
+                    .give_row(seat, at, Bucket::of(chain, &self.schema));
                 Ok(Placed {
                     at: drawn.at,
                     reply,
                 })
             }
             Err(fault) => {
-                self.locks.give_row(seat, at, Bucket::of(chain, &self.schema));
+                self.locks
+                    .give_row(seat, at, Bucket::of(chain, &self.schema));
                 Err(refused(fault))
             }
         }
@@ -166,7 +172,8 @@ impl Table {
     {
         match self.locks.try_pool(seat) {
             Err(seen) => {
-                self.locks.give_row(seat, at, Bucket::of(chain, &self.schema));
+                self.locks
+                    .give_row(seat, at, Bucket::of(chain, &self.schema));
                 Err(CallFault::Busy(WordId::Pool, seen))
             }
             Ok(pool) => self.in_both::<N>(seat, at, chain, pool, turn, call, key),
@@ -198,9 +205,18 @@ impl Table {
         let change = change(&chain, turn, pool.has_spare());
         match self.locks.draw::<Of<N>>(seat, self.last_call, change) {
             Ok(drawn) => {
-                let reply = work_with(&mut chain, &self.schema, &self.blank_row, turn, call, key, &mut pool);
+                let reply = work_with(
+                    &mut chain,
+                    &self.schema,
+                    &self.blank_row,
+                    turn,
+                    call,
+                    key,
+                    &mut pool,
+                );
                 self.locks.give_pool(seat, pool);
-                self.locks.give_row(seat, at, Bucket::of(chain, &self.schema));
+                self.locks
+                    .give_row(seat, at, Bucket::of(chain, &self.schema));
                 Ok(Placed {
                     at: drawn.at,
                     reply,
@@ -208,7 +224,8 @@ impl Table {
             }
             Err(fault) => {
                 self.locks.give_pool(seat, pool);
-                self.locks.give_row(seat, at, Bucket::of(chain, &self.schema));
+                self.locks
+                    .give_row(seat, at, Bucket::of(chain, &self.schema));
                 Err(refused(fault))
             }
         }

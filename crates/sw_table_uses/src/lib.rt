@@ -3,8 +3,6 @@
 
 mod crowd;
 mod player;
-#[cfg(test)]
-mod tests;
 
 pub use crowd::{eight, two};
 pub use player::Player;

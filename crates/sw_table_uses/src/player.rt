@@ -1,6 +1,8 @@
 //! A thread that makes calls in an order of its own and keeps what they came to.
-ghost use Rattle.std.specs.Prelude.{◌≡◌, ◌<◌, length, IfOk};
-ghost use Rattle.sw_table_uses.specs.Players.{IsPlayer};
+ghost use Rattle.std.specs.Prelude.{◌≡◌, ◌<◌, List, length, All, None, IfOk};
+ghost use Rattle.sw_column.specs.declared.column.Column.{Column};
+ghost use Rattle.sw_column.specs.Fit.{call_fault};
+ghost use Rattle.sw_table_uses.specs.Players.{IsPlayer, FitsColumns};
 
 use std::alloc::Global;
 use std::sync::Wait;
@@ -57,7 +59,11 @@ impl Player {
     }
 
     // Keeps a line.
-    fn keep(&mut self, call: &Call, placed: Placed) -> Result<(), OutOfMemory> {
+    fn keep(&mut self, call: &Call, placed: Placed) -> Result<(), OutOfMemory>
+        ensures seat { self.new.seat ≡ self.old.seat }
+        ensures row { self.new.row ≡ self.old.row }
+        ensures lines { (cs : List Column) → call_fault cs call.now ≡ None → All (FitsColumns cs) self.old.lines.items → All (FitsColumns cs) self.new.lines.items }
+    {
         let cells = match placed.reply {
             Reply::Found => self.row.cells()?,
             _ => Cells::new(self.alloc),

@@ -26,7 +26,17 @@ put_row-requires-clause-room c =
     (copy_room c.args.schema.now c.args.plain.now c.loop-i.plain rows c.args.at c.loop-i.i r c.requires.bucket c.row-from.ensures (omega arith) c.requires.near own c.requires.none c.requires.room c.loop-i.invariant.copied)
 
 pub loop-i-preserved : goal.loop-i-preserved
-loop-i-preserved c = ?
+loop-i-preserved c =
+    let rows = c.args.chain.now in
+    let r = c.row-from.result.now.here in
+    let own = all_slice (λ (x : Packed). bucket c.args.plain.now.size x.key ≡ c.args.at) rows c.loop-i.i r c.requires.own c.row-from.ensures in
+    let e = c.put_row.ensures ∙ ap (λ (k : List ℕ). record c.loop-i.plain { state = fin.insert c.loop-i.plain.state k c.unpack.new.into }) c.key.ensures in
+    let next : suc c.loop-i.i ≡ c.loop-i.i + 1 = omega arith in
+    record {
+      copied = subst (λ (k : ℕ). IsCopied c.args.plain.now (take k rows) c.args.at c.put_row.new.self) next
+          (copy_more c.args.schema.now c.args.plain.now c.loop-i.plain c.put_row.new.self rows c.args.at c.loop-i.i r c.unpack.new.into c.requires.bucket c.row-from.ensures own c.unpack.ensures.value c.loop-i.invariant.copied e);
+      kinds = c.unpack.ensures.kinds;
+    }
 
 pub returns : goal.returns
-returns c = ?
+returns c = record { copied = copy_all c.args.plain.now c.loop-i.plain c.args.chain.now c.args.at c.loop-i.i (omega arith) c.loop-i.invariant.copied; kinds = c.loop-i.invariant.kinds }

@@ -1,4 +1,4 @@
-use Rattle.std.proofs.Common.{◌≡◌, ◌≤◌, ◌*◌, ◌+◌, ap, sym, subst, ◌∙◌, arith}
+use Rattle.std.proofs.Common.{◌≡◌, ℕ, ◌≤◌, ◌*◌, ◌+◌, ap, sym, subst, ◌∙◌, arith}
 use Rattle.sw_rowlock.specs.History.{calls}
 use Rattle.sw_rowlock.specs.Seats.{all_parts}
 use Rattle.sw_rowlock.specs.Told.{LookedAt}
@@ -15,8 +15,8 @@ loop-at-init c =
     let t = c.args.table.now in
     let v = c.table.view_is in
     let is : IsShared t = subst IsShared v c.table.invariant.0 in
-    let looked = subst (λ (y : SharedNow). LookedAt IsFor call_row call_asks call_does y.locks.start c.args.seat c.count.new.seat (c.count.result.at * 2097152 + c.count.result.rows)) v c.count.ensures.looked in
-    let l = loaded t c.args.seat c.count.new.seat c.count.result.at c.count.result.rows is c.requires.seat.has c.count.ensures.rows looked in
+    let looked = subst (λ (y : SharedNow). LookedAt IsFor call_row call_asks call_does y.locks.start c.args.seat c.count-calls.new.seat (c.count-calls.result.at * 2097152 + c.count-calls.result.rows)) v c.count-calls.ensures.looked in
+    let l = loaded t c.args.seat c.count-calls.new.seat c.count-calls.result.at c.count-calls.result.rows is c.requires.seat.has c.count-calls.ensures.rows looked in
     record {
       filled = fill_none t (rows_after t (calls c.args.seat.seen)) c.args.plain c.requires.plain;
       same = l.same;
@@ -37,7 +37,23 @@ loop-at-preserved c = record {
 }
 
 pub set_calls-requires : goal.set_calls-requires
-set_calls-requires c = ?
+set_calls-requires c =
+    let t = c.args.table.now in
+    let v = c.table.view_is in
+    let is : IsShared t = subst IsShared v c.table.invariant.0 in
+    let looked = subst (λ (y : SharedNow). LookedAt IsFor call_row call_asks call_does y.locks.start c.args.seat c.count-calls.new.seat (c.count-calls.result.at * 2097152 + c.count-calls.result.rows)) v c.count-calls.ensures.looked in
+    let l = loaded t c.args.seat c.count-calls.new.seat c.count-calls.result.at c.count-calls.result.rows is c.requires.seat.has c.count-calls.ensures.rows looked in
+    let few = l.few in
+    let same : c.loop-at.plain.last_call ≡ t.last_call = ap (λ (p : PlainTable). p.last_call) c.loop-at.invariant.filled.like in
+    omega (arith, few, same)
 
 pub returns : goal.returns
-returns c = ?
+returns c =
+    let t = c.args.table.now in
+    let v = c.table.view_is in
+    let is : IsShared t = subst IsShared v c.table.invariant.0 in
+    let looked = subst (λ (y : SharedNow). LookedAt IsFor call_row call_asks call_does y.locks.start c.args.seat c.count-calls.new.seat (c.count-calls.result.at * 2097152 + c.count-calls.result.rows)) v c.count-calls.ensures.looked in
+    let l = loaded t c.args.seat c.count-calls.new.seat c.count-calls.result.at c.count-calls.result.rows is c.requires.seat.has c.count-calls.ensures.rows looked in
+    let end : c.loop-at.at ≡ c.table.inside.size = omega arith in
+    let filled = subst (λ (k : ℕ). IsFilled t (rows_after t (calls c.args.seat.seen)) k c.loop-at.plain) (end ∙ ap (λ (y : SharedNow). y.size) v) c.loop-at.invariant.filled in
+    is_drained t c.args.seat c.count-calls.new.seat c.count-calls.result.at c.loop-at.plain c.set_calls.new.self is l filled c.set_calls.ensures

@@ -1,4 +1,4 @@
-use Rattle.std.proofs.Common.{arith}
+use Rattle.std.proofs.Common.{◌++◌, arith}
 use Rattle.sw_table.proofs.Joining.{join_start, join_next, join_end}
 use Rattle.sw_table.proofs.closing.joined.Goals as goal
 
@@ -11,7 +11,7 @@ loop-init c = record { count = omega arith; parted = join_start c.args.table.now
 pub loop-preserved : goal.loop-preserved
 loop-preserved c = record {
   count = omega (arith, c.in-Some.ensures.cases, c.loop.invariant.count);
-  parted = join_next c.args.table.now c.args.rest c.args.seats.items c.loop.seats.items c.pop.new.self.items c.loop.seat c.in-Some.other c.join.new.seat _ c.requires.seats c.loop.invariant.parted c.in-Some.ensures.items ? c.join.ensures.draws;
+  parted = join_next c.args.table.now c.args.rest c.args.seats.items c.loop.seats.items c.pop.new.self.items c.loop.seat c.in-Some.other c.join.new.seat (c.loop.seat.refusals ++ c.in-Some.other.refusals) c.requires.seats c.loop.invariant.parted c.in-Some.ensures.items c.join.ensures.seat c.join.ensures.draws;
 }
 
 pub returns : goal.returns

@@ -21,6 +21,8 @@ pub returns-in-Err-clause-call : goal.returns-in-Err-clause-call
 returns-in-Err-clause-call g c = λ row.
     let t = c.args.self.now in
     let v = c.self.view_is in
-    let is : IsShared t = subst IsShared v c.self.invariant.0 in
-    (refl, subst (λ (f : CallFault). NotPlaced t c.args.seat.now c.draw.new.seat c.args.call.now f) (sym c.refused.ensures)
-    (refused_free t c.args.call.now c.args.seat.now c.draw.new.seat c.in-Err.fault is c.requires.seat (refused_as v c.args.seat.now c.draw.new.seat c.in-Err.fault c.in-Err.ensures.refused)).0)
+    let is : IsShared t = subst IsShared v c.self.invariant.0 in (
+      refl,
+      subst (λ (f : CallFault). NotPlaced t c.args.seat.now c.draw.new.seat c.args.call.now f) (sym c.refused.ensures)
+          (refused_free t c.args.call.now c.args.seat.now c.draw.new.seat c.in-Err.fault is c.requires.seat (refused_as v c.args.seat.now c.draw.new.seat c.in-Err.fault c.in-Err.ensures.refused)).0,
+    )

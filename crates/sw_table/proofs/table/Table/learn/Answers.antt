@@ -5,8 +5,11 @@ use Rattle.sw_table.proofs.Notes.{draws_noted, longer}
 use Rattle.sw_table.proofs.table.Table.learn.Goals as goal
 
 pub returns-clause-own : goal.returns-clause-own
-returns-clause-own c = ?
+returns-clause-own c = ap (λ (s : SeatView). draws_of s.seen) c.join.ensures.seat ∙ draws_noted c.args.seat.now.seen c.note.inside.seat.seen c.note.invariant.seen
 
 pub returns-clause-behind : goal.returns-clause-behind
 returns-clause-behind c =
-    subst (λ (s : SeatView). (length (calls c.args.seat.now.seen) ≤ length (calls s.seen)) × (length (calls c.args.note.seen) ≤ length (calls s.seen))) (sym c.join.ensures.seat) (longer c.args.seat.now.seen c.args.note.seen)
+    let old = c.args.seat.now in
+    let told = c.note.inside.seat in
+    let both = subst (λ (s : SeatView). (length (calls old.seen) ≤ length (calls s.seen)) × (length (calls told.seen) ≤ length (calls s.seen))) (sym c.join.ensures.seat) (longer old.seen told.seen) in
+    (both.0, subst (λ (n : SeatView). length (calls n.seen) ≤ length (calls c.join.new.seat.seen)) c.note.view_is both.1)
