@@ -30,7 +30,7 @@ copy_rows-requires-clause-bucket c =
     let rows = c.into_chain-chain.result.value in
     let left = left_as v c.args.seat.now c.args.at c.in-Ok.bucket c.in-Ok.ensures.value in
     let f = ready t c.args.seat.now c.args.at c.in-Ok.bucket rows c.args.plain.now is c.requires.near c.requires.seat.has left c.into_chain-chain.ensures.rows c.into_chain-chain.ensures.sound c.requires.filled in
-    subst (λ (xs : List Packed). IsBucket c.table.inside.schema xs) (sym c.deref.ensures.value) (subst (λ (y : SharedNow). IsBucket y.columns rows) (sym v) f.bucket_is)
+    subst (λ (xs : List Packed). IsBucket c.table.inside.schema xs) (sym c.deref.ensures) (subst (λ (y : SharedNow). IsBucket y.columns rows) (sym v) f.bucket_is)
 
 pub copy_rows-requires-clause-near : goal.copy_rows-requires-clause-near
 copy_rows-requires-clause-near c =
@@ -50,7 +50,7 @@ copy_rows-requires-clause-own c =
     let rows = c.into_chain-chain.result.value in
     let left = left_as v c.args.seat.now c.args.at c.in-Ok.bucket c.in-Ok.ensures.value in
     let f = ready t c.args.seat.now c.args.at c.in-Ok.bucket rows c.args.plain.now is c.requires.near c.requires.seat.has left c.into_chain-chain.ensures.rows c.into_chain-chain.ensures.sound c.requires.filled in
-    subst (λ (xs : List Packed). All (λ (r : Packed). bucket c.args.plain.now.size r.key ≡ c.args.at) xs) (sym c.deref.ensures.value) f.own
+    subst (λ (xs : List Packed). All (λ (r : Packed). bucket c.args.plain.now.size r.key ≡ c.args.at) xs) (sym c.deref.ensures) f.own
 
 pub copy_rows-requires-clause-none : goal.copy_rows-requires-clause-none
 copy_rows-requires-clause-none c =
@@ -70,7 +70,7 @@ copy_rows-requires-clause-room c =
     let rows = c.into_chain-chain.result.value in
     let left = left_as v c.args.seat.now c.args.at c.in-Ok.bucket c.in-Ok.ensures.value in
     let f = ready t c.args.seat.now c.args.at c.in-Ok.bucket rows c.args.plain.now is c.requires.near c.requires.seat.has left c.into_chain-chain.ensures.rows c.into_chain-chain.ensures.sound c.requires.filled in
-    subst (λ (xs : List Packed). used c.args.plain.now.size c.args.plain.now.state + length xs ≤ (shape_of c.args.plain.now).pool + 1) (sym c.deref.ensures.value) f.room
+    subst (λ (xs : List Packed). used c.args.plain.now.size c.args.plain.now.state + length xs ≤ (shape_of c.args.plain.now).pool + 1) (sym c.deref.ensures) f.room
 
 pub of-requires : goal.of-requires
 of-requires c =
@@ -102,5 +102,5 @@ returns-clause-filled c =
     let rows = c.into_chain-chain.result.value in
     let left = left_as v c.args.seat.now c.args.at c.in-Ok.bucket c.in-Ok.ensures.value in
     let f = ready t c.args.seat.now c.args.at c.in-Ok.bucket rows c.args.plain.now is c.requires.near c.requires.seat.has left c.into_chain-chain.ensures.rows c.into_chain-chain.ensures.sound c.requires.filled in
-    let copied = subst (λ (xs : List Packed). IsCopied c.args.plain.now xs c.args.at c.copy_rows.new.plain) c.deref.ensures.value c.copy_rows.ensures.copied in
+    let copied = subst (λ (xs : List Packed). IsCopied c.args.plain.now xs c.args.at c.copy_rows.new.plain) c.deref.ensures c.copy_rows.ensures.copied in
     fill_more t (rows_after t (calls c.args.seat.now.seen)) c.args.at rows c.args.plain.now c.copy_rows.new.plain c.requires.filled f.same copied
