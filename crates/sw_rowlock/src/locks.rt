@@ -289,7 +289,8 @@ impl<B: Drop, P: Drop, C: Called<B, P>> RowLocks<B, P, C> {
     pub fn count(&self, seat: &mut Seat<B, P, C>) -> Drawn
         requires seat { IsSeatOf self.now seat.old }
         requires part { 0 < seat.old.parts }
-        ensures { LookedAt C.may C.row_of C.needs C.does self.now.start seat.old seat.new (result.at * 2097152 + result.rows) }
+        ensures looked { LookedAt C.may C.row_of C.needs C.does self.now.start seat.old seat.new (result.at * 2097152 + result.rows) }
+        ensures rows { result.rows < 2097152 }
     {
         let found = self.look(seat);
         Drawn {

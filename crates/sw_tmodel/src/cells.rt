@@ -4,7 +4,7 @@ ghost use Rattle.sw_base.specs.declared.table.Value.TheVariants as values;
 ghost use Rattle.sw_column.specs.Columns.{column_of};
 ghost use Rattle.sw_column.specs.Cells.{cell_value, blanked};
 ghost use Rattle.sw_column.specs.Fit.{pairs_fault, at_column};
-ghost use Rattle.sw_column.specs.Values.{HasKinds, blank};
+ghost use Rattle.sw_column.specs.Values.{HasKinds, IsRow, blank};
 ghost use Rattle.sw_table_laws.specs.Rows.{with_pairs, with_value, number_of, number_in};
 ghost use Rattle.sw_tmodel.specs.PlainRows.{AreCells, IsPlaceFor, cell_with};
 ghost use Rattle.std.specs.Prelude.{Some};
@@ -37,6 +37,29 @@ fn put(cell: &mut Cell, value: &Value)
     match value {
         Value::Int(n) => cell.put_int(*n),
         Value::Text(text) => cell.put_text(text.bytes()),
+    }
+}
+
+/// The value of another cell, in a cell.
+fn copy(cell: &mut Cell, from: &Cell)
+    ensures { cell.new ≡ cell_with cell.old (cell_value from.now) }
+{
+    match from {
+        Cell::Int(n) => cell.put_int(*n),
+        Cell::Text(text) => cell.put_text(text.text()),
+    }
+}
+
+/// Writes the values of a buffer, which fit the columns, into the cells.
+pub fn fill(cells: &mut [Cell], schema: &Schema, row: &RowBuf)
+    requires cells { AreCells schema.now cells.old }
+    requires fit { IsRow schema.now row.now }
+    ensures kept { AreCells schema.now cells.new }
+    ensures written { map cell_value cells.new ≡ row.now }
+{
+    let _ = schema;
+    for at in 0..cells.len() {
+        copy(&mut cells[at], row.cell(at));
     }
 }
 

@@ -10,4 +10,4 @@ mod rows;
 mod steps;
 mod store;
 
-pub use plain::Plain;
+pub use plain::{Plain, raised};

@@ -1,9 +1,10 @@
 //! The plain Table: each call is the definition's step at the next place.
-ghost use Rattle.std.specs.Prelude.{◌≡◌, ◌<◌, ◌≤◌, ◌*◌, nat_lt, if◌then◌else◌, IfOk};
+ghost use Rattle.std.specs.Prelude.{◌≡◌, ◌<◌, ◌≤◌, ◌*◌, None, true, length, nat_lt, if◌then◌else◌, IfOk};
 ghost use Rattle.std.specs.FinMap as map;
-ghost use Rattle.sw_column.specs.Values.{HasKinds};
+ghost use Rattle.sw_column.specs.Values.{HasKinds, IsRow};
 ghost use Rattle.sw_table_laws.specs.Sizes.{raised, raised_by};
-ghost use Rattle.sw_tmodel.specs.Plain.{IsCall};
+ghost use Rattle.sw_table_laws.specs.Table.{has_room};
+ghost use Rattle.sw_tmodel.specs.Plain.{IsCall, shape_of};
 
 use crate::steps::step;
 use crate::store::Store;
@@ -88,6 +89,27 @@ impl Plain {
         Ok(Placed { at, reply })
     }
 
+    /// Puts the row of a missing key in, where there is room. No call is counted, and no memory is taken.
+    pub fn put_row(&mut self, key: &[u8], row: &RowBuf)
+        requires missing { map.get self.old.state key.now ≡ None }
+        requires room { has_room (shape_of self.old) self.old.state key.now ≡ true }
+        requires key { length key.now ≤ 63 }
+        requires fit { IsRow self.old.columns row.now }
+        ensures { self.new ≡ record self.old { state = map.insert self.old.state key.now row.now } }
+    {
+        let at = self.store.len();
+        self.store.add(key);
+        self.store.fill(at, row);
+    }
+
+    /// Says how many calls had a place, at most as many as may have one.
+    pub fn set_calls(&mut self, calls: u64)
+        requires { calls ≤ self.old.last_call }
+        ensures { self.new ≡ record self.old { calls = calls } }
+    {
+        self.calls = calls;
+    }
+
     /// The columns, lent.
     pub fn schema(&self) -> &Schema
         ensures { result.now ≡ self.now.columns }
@@ -104,8 +126,8 @@ impl Plain {
     }
 }
 
-/// The size of a Table that is asked to have so many buckets.
-fn raised(size: u32) -> u32
+/// The size of a Table that is asked to have so many buckets: the least power of two that is as many, at least 64.
+pub fn raised(size: u32) -> u32
     requires { size ≤ 524288 }
     ensures value { result ≡ raised size }
     ensures least { 64 ≤ result }

@@ -6,11 +6,11 @@ ghost use Rattle.std.specs.FinMap.{find};
 ghost use Rattle.sw_column.specs.declared.column.Column.{Column};
 ghost use Rattle.sw_column.specs.Columns.{column_of};
 ghost use Rattle.sw_column.specs.Fit.{pairs_fault, at_column};
-ghost use Rattle.sw_column.specs.Values.{blank, HasKinds};
+ghost use Rattle.sw_column.specs.Values.{blank, HasKinds, IsRow};
 ghost use Rattle.sw_table_laws.specs.Rows.{with_pairs, with_value, number_of};
 ghost use Rattle.sw_tmodel.specs.PlainRows.{AreCells, IsShaped, IsAt, entry_of};
 
-use crate::cells::{clear, number, put_pair, put_pairs, show};
+use crate::cells::{clear, fill, number, put_pair, put_pairs, show};
 use std::alloc::Global;
 use sw_base::{OutOfMemory, Pairs, Value};
 use sw_column::{Cell, RowBuf, Schema, TextBuf};
@@ -69,6 +69,16 @@ impl PlainRow {
         ensures entry { entry_of self.new ≡ ((entry_of self.old).0, with_value schema.now (entry_of self.old).1 name.now value.now) }
     {
         put_pair(&mut self.cells, schema, name, value);
+    }
+
+    /// Writes the values of a buffer, which fit the columns.
+    pub fn fill(&mut self, schema: &Schema, row: &RowBuf)
+        requires shape { IsShaped schema.now self.old }
+        requires fit { IsRow schema.now row.now }
+        ensures shape { IsShaped schema.now self.new }
+        ensures entry { entry_of self.new ≡ ((entry_of self.old).0, row.now) }
+    {
+        fill(&mut self.cells, schema, row);
     }
 
     /// The number in a column.

@@ -6,7 +6,7 @@ ghost use Rattle.std.specs.FinMap.{find};
 ghost use Rattle.sw_base.specs.declared.table.Value.TheVariants as values;
 ghost use Rattle.sw_column.specs.Columns.{column_of};
 ghost use Rattle.sw_column.specs.Fit.{pairs_fault, at_column};
-ghost use Rattle.sw_column.specs.Values.{blank, HasKinds};
+ghost use Rattle.sw_column.specs.Values.{blank, HasKinds, IsRow};
 ghost use Rattle.sw_table_laws.specs.Rows.{with_pairs, with_value, number_of};
 ghost use Rattle.sw_tmodel.specs.PlainRows.{IsAt, row_at, with_row};
 
@@ -90,6 +90,15 @@ impl Rows {
         ensures { self.new ≡ record self.old { entries = with_row self.old.entries at (with_value self.old.columns (row_at self.old.entries at) name.now value.now) } }
     {
         self.rows[at].put_pair(&self.schema, name, value);
+    }
+
+    /// Writes the values of a buffer, which fit the columns, into a row.
+    pub fn fill(&mut self, at: usize, row: &RowBuf)
+        requires place { at < length self.old.entries }
+        requires fit { IsRow self.old.columns row.now }
+        ensures { self.new ≡ record self.old { entries = with_row self.old.entries at row.now } }
+    {
+        self.rows[at].fill(&self.schema, row);
     }
 
     /// The number in a column of a row.

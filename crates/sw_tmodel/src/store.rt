@@ -3,7 +3,7 @@ ghost use Rattle.std.specs.Prelude.{◌≡◌, ◌+◌, ◌<◌, ◌≤◌, ◌+
 ghost use Rattle.std.specs.FinMap as map;
 ghost use Rattle.sw_column.specs.Columns.{column_of};
 ghost use Rattle.sw_column.specs.Fit.{pairs_fault, at_column};
-ghost use Rattle.sw_column.specs.Values.{blank, HasKinds};
+ghost use Rattle.sw_column.specs.Values.{blank, HasKinds, IsRow};
 ghost use Rattle.sw_table_laws.specs.Rows.{with_pairs, with_value, number_of};
 ghost use Rattle.sw_table_laws.specs.Table.{bucket, has_room};
 ghost use Rattle.sw_tmodel.specs.PlainRows.{IsAt, key_at, row_at, with_row};
@@ -131,6 +131,16 @@ impl Store {
         ensures state { state_of self.new.entries ≡ map.insert (state_of self.old.entries) (key_at self.old.entries at) (with_value self.old.shape.columns (row_at self.old.entries at) name.now value.now) }
     {
         self.rows.put_pair(at, name, value);
+    }
+
+    /// Writes the values of a buffer, which fit the columns, into a row.
+    pub fn fill(&mut self, at: usize, row: &RowBuf)
+        requires place { at < length self.old.entries }
+        requires fit { IsRow self.old.shape.columns row.now }
+        ensures shape { self.new.shape ≡ self.old.shape }
+        ensures state { state_of self.new.entries ≡ map.insert (state_of self.old.entries) (key_at self.old.entries at) row.now }
+    {
+        self.rows.fill(at, row);
     }
 
     /// The number in a column of a row.

@@ -1,0 +1,6 @@
+pub mod Listed
+pub mod Places
+pub mod Done
+pub mod Turning
+pub mod Works
+pub mod Changing
