@@ -67,9 +67,9 @@ fn step_of(alloc: Global, line: &[u8]) -> Result<Option<LinkStep>, OutOfMemory> 
     let rest = rest.unwrap_or(&[]);
     let n = number(rest).unwrap_or(0);
     Ok(match word {
-        b"piece" => Some(LinkStep::Piece(Octets::of(
-            bytes(alloc, rest)?.unwrap_or(Vec::new(alloc)),
-        ))),
+        b"piece" => Some(LinkStep::Piece(Octets::of(bytes(alloc, rest)?.unwrap_or(Vec::new(
+            alloc,
+        ))))),
         b"wait" => Some(LinkStep::Wait(n)),
         b"end" => Some(LinkStep::End),
         b"failread" => Some(LinkStep::FailRead(n)),

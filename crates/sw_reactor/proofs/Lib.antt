@@ -1,4 +1,0 @@
-pub mod Keeping
-pub mod Slots
-pub mod Kept
-pub mod Apart
