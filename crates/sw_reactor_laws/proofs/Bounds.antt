@@ -33,7 +33,7 @@ use Rattle.sw_reactor_table.proofs.Serve.{serve_right}
 use Rattle.sw_reactor_table.proofs.Turn.{started_quiet}
 use Rattle.sw_reactor_table.proofs.Law.{call_quiet, call_fair, runs_quiet}
 use Rattle.sw_reactor_laws.specs.Bounds.{MayNote, HeldMay, opened, IsSmall, CanNoteMsg, CanNote, InBounds}
-use Rattle.sw_reactor_laws.proofs.Everywhere.{Settled, if_each, each_all_conn, settled_each, around}
+use Rattle.sw_reactor_table.proofs.Everywhere.{Settled, if_each, each_all_conn, settled_each, around}
 use Rattle.sw_reactor_laws.proofs.Histories.{Listed, runs_listed}
 
 -- what settles a message keeps it

@@ -28,7 +28,7 @@ use Rattle.sw_reactor_laws.specs.Round.{sum_of, sent_of}
 use Rattle.sw_reactor_laws.specs.Histories.{pushed_packet, counts_in, counted_in, at_first, at_served, leaves_with, frees, freed_in, told_uid, freed_by, freed_of, first_of, firsts}
 use Rattle.sw_reactor_table.proofs.Flow.{more_of}
 use Rattle.sw_reactor_table.proofs.Lift.{map_append}
-use Rattle.sw_reactor_table.proofs.Known.{settled_over, turned_over}
+use Rattle.sw_reactor_table.proofs.Everywhere.{settled_over, turned_over}
 use Rattle.sw_reactor_table.proofs.Law.{runs_quiet, map_same, at_session}
 use Rattle.sw_reactor_laws.proofs.Rounded.{RoundOf, RoundBy, runs_round, sum_map}
 use Rattle.sw_reactor_table.proofs.Members.{each_has, has_left, has_right, has_either, distinct_apart}

@@ -25,9 +25,9 @@ use Rattle.sw_reactor_table.specs.Reactor.{Reactor, Ask, Take, Push, Nothing, Re
 use Rattle.sw_reactor_table.specs.Runs.{Runs, First, Then}
 use Rattle.sw_reactor_laws.specs.Histories.{at_served, may_write, reads_at, writes_at, reads_in, writes_in}
 use Rattle.sw_reactor_laws.specs.Rests.{RestsOn, LinkRests}
-use Rattle.sw_reactor_table.proofs.Known.{settled_over}
+use Rattle.sw_reactor_table.proofs.Everywhere.{settled_over}
 use Rattle.sw_reactor_table.proofs.Members.{has_left, has_right}
-use Rattle.sw_reactor_laws.proofs.Everywhere.{Settled, Both, both_more, if_each, settled_each, served_both, ends_both, takes_both, around}
+use Rattle.sw_reactor_table.proofs.Everywhere.{Settled, Both, both_more, if_each, settled_each, served_both, ends_both, takes_both, around}
 
 -- of a connection that may have no cause
 abbrev pub RestsIf : Terms → List (ℕ × Read) → List (ℕ × LinkWrite) → ℕ → List (List ℕ) → Option Cause → Type 0

@@ -20,8 +20,8 @@ use Rattle.sw_reactor_table.specs.Conn.{cuts_next, starve, Conn, Answers, fresh,
 use Rattle.sw_reactor_table.specs.Reactor.{Reactor, Ask, Take, Push, Nothing, Rest, Finished, all, each_conn, settled, settled_msg, settled_push, settled_full, pushed_by, full_by, turned, stayed, served_by, counted, ends_by, serves, chosen, turn, started}
 use Rattle.sw_reactor_table.specs.Runs.{Runs, First, Then}
 use Rattle.sw_reactor_laws.specs.Stopped.{CalmOf, Calm, CalmLink, stop_at, stop_read}
-use Rattle.sw_reactor_table.proofs.Known.{settled_over}
-use Rattle.sw_reactor_laws.proofs.Everywhere.{Settled, Both, if_each, settled_each, served_both, ends_both, around}
+use Rattle.sw_reactor_table.proofs.Everywhere.{settled_over}
+use Rattle.sw_reactor_table.proofs.Everywhere.{Settled, Both, if_each, settled_each, served_both, ends_both, around}
 use Rattle.sw_frame.specs.Cutting.{next_by, next_rest}
 use Rattle.sw_frame.specs.Cut.{cut}
 use Rattle.sw_cut.specs.declared.First.{First as FirstOf}

@@ -26,6 +26,7 @@ IsGivingMsg given w (Bye s) = Unit {0}
 IsGivingMsg given w (EventMsg e) = Unit {0}
 IsGivingMsg given w (OverMsg id) = Unit {0}
 
+-- the same of an ask
 abbrev pub IsGiving : ℕ → Ask → Type 0
 IsGiving given (Push w m) = IsGivingMsg given w m
 IsGiving given Take = Unit {0}

@@ -10,6 +10,7 @@ pub mod Scattered
 pub mod Kept
 pub mod Lift
 pub mod Turn
+pub mod Everywhere
 pub mod Known
 pub mod Straight
 pub mod Law

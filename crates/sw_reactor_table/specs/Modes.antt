@@ -36,6 +36,7 @@ back_link t ip s uid split pieces written d =
 abbrev pub IsReleased : Terms → Conn → ℕ → Type 0
 IsReleased t c u = t.mode ≡ 5 → (c.uid ≡ 0) ⊎ (u ≡ c.uid)
 
+-- what a mode says of a live link, of one that comes back and of one that ended, by what was pushed of its connection
 pub record ModeLaws (t : Terms) (aimed : ℕ → LinkRecord → Mail → Type 0) (whole : ℕ → LinkRecord → Ended → Mail → Type 0) : Type 0 where
   pub live : (ip s uid split : ℕ) (pieces : List (List ℕ)) (taken n : ℕ) (cause : Option Cause) (phase : Phase) (pushed : Mail) → Tale t ip s uid split pieces taken n cause phase pushed → (written : List ℕ) (d : ℕ) → aimed s (shown_link t ip s uid split pieces written d) pushed
   pub back : (ip s uid split : ℕ) (pieces : List (List ℕ)) (taken n : ℕ) (cause : Option Cause) (phase : Phase) (pushed : Mail) → Tale t ip s uid split pieces taken n cause phase pushed → (written : List ℕ) (d : ℕ) → aimed s (back_link t ip s uid split pieces written d) pushed

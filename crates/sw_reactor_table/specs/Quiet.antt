@@ -66,6 +66,7 @@ told_by t s Closing n pieces = story s (take n (packets_cut t pieces))
 abbrev pub side_of : Terms → ℕ → ℕ → ℕ → ℕ → ℕ
 side_of t s uid split i = if uid == 0 then side t s 0 else (if nat_lt i split then side t s 0 else side t s uid)
 
+-- in mode 5 a packet goes to its side
 abbrev pub IsSided : Terms → ℕ → ℕ → ℕ → ActorId → Event → Type 0
 IsSided t s uid split to (Connect u) = Unit {0}
 IsSided t s uid split to (Packet u i b) = to ≡ Worker (side_of t s uid split i)
@@ -73,6 +74,7 @@ IsSided t s uid split to (Closed u) = Unit {0}
 IsSided t s uid split to (Finish id b) = Unit {0}
 IsSided t s uid split to (Task w id b) = Unit {0}
 
+-- an event goes where its mode says
 abbrev pub IsAimed : Terms → ℕ → ℕ → ℕ → ℕ → ActorId → Event → Type 0
 IsAimed t ip s uid split to e = (keeps t.mode ≡ true → to ≡ Worker (target t s ip)) × (t.mode ≡ 5 → IsSided t s uid split to e)
 
@@ -80,6 +82,7 @@ IsAimed t ip s uid split to e = (keeps t.mode ≡ true → to ≡ Worker (target
 abbrev pub HasCause : Option Cause → Type 0
 HasCause cause = (e : Cause) × (cause ≡ Some e)
 
+-- a phase fits the mode, the cause and the packets that were pushed
 abbrev pub IsPhase : Terms → Phase → Option Cause → ℕ → Type 0
 IsPhase t Coming cause n = bound t.mode ≡ true → n ≡ 0
 IsPhase t Open cause n = bound t.mode ≡ true
@@ -99,6 +102,7 @@ pub record IsReady (t : Terms) (ip s uid split : ℕ) (pieces : List (List ℕ))
   pub aimed : IsAimed t ip s uid split (Worker w) e
   pub is_next : IsNext t s pieces taken n cause phase e
 
+-- a held event is the next one; without one and without a cause all packets taken were pushed
 abbrev pub IsHeld : Terms → ℕ → ℕ → ℕ → ℕ → List (List ℕ) → ℕ → ℕ → Option Cause → Phase → Option (ℕ × Event) → Type 0
 IsHeld t ip s uid split pieces taken n cause phase None = cause ≡ None → taken ≡ n
 IsHeld t ip s uid split pieces taken n cause phase (Some h) = IsReady t ip s uid split pieces taken n cause phase h.0 h.1
@@ -113,21 +117,27 @@ pub record Tale (t : Terms) (ip s uid split : ℕ) (pieces : List (List ℕ)) (t
   pub least : n ≤ taken
   pub whole : (e : Cause) → cause ≡ Some e → IsAllCut e → n ≡ length (packets_cut t pieces)
 
+-- how many events of s that await a Bye were pushed
 abbrev pub dues : Terms → ℕ → Mail → ℕ
 dues t s pushed = length (collect (due_in t s) (bare pushed))
 
+-- the same, of a connection
 abbrev pub FlowsOf : Terms → Conn → Mail → ℕ → Type 0
 FlowsOf t c took n = Flows t c.ip c.session c.cause c.written c.unsent c.awaited took n
 
+-- what was pushed, of a connection
 abbrev pub TaleOf : Terms → Conn → Mail → Type 0
 TaleOf t c pushed = Tale t c.ip c.session c.uid c.split c.pieces c.taken c.dispatched c.cause c.phase pushed
 
+-- what it holds
 abbrev pub HeldOf : Terms → Conn → Option (ℕ × Event) → Type 0
 HeldOf t c h = IsHeld t c.ip c.session c.uid c.split c.pieces c.taken c.dispatched c.cause c.phase h
 
+-- an event that it is to push to this worker
 abbrev pub ReadyOf : Terms → Conn → ℕ → Event → Type 0
 ReadyOf t c w e = IsReady t c.ip c.session c.uid c.split c.pieces c.taken c.dispatched c.cause c.phase w e
 
+-- a connection of reactor n, with nothing on its way
 pub record QuietConn (t : Terms) (n : ℕ) (took pushed : Mail) (c : Conn) : Type 0 where
   pub home : n ≡ reactor_of t c.session
   pub flows : FlowsOf t c took (dues t c.session pushed)
@@ -156,6 +166,7 @@ ServedBy t n took pushed c Moves = QuietConn t n took pushed c
 ServedBy t n took pushed c Stays = QuietConn t n took pushed c
 ServedBy t n took pushed c (Leaves e) = QuietConn t n took pushed c × IsOver t c e
 
+-- a serve keeps the session, and what it comes to is right
 pub record ServedRight (t : Terms) (n : ℕ) (took pushed : Mail) (s : ℕ) (v : Served) : Type 0 where
   pub session : v.conn.session ≡ s
   pub does : ServedBy t n took pushed v.conn v.does
@@ -176,13 +187,16 @@ pub record QuietOver (t : Terms) (aimed : ℕ → LinkRecord → Mail → Type 0
 abbrev pub session_in : Conn → List ℕ
 session_in c = c.session ∷ []
 
+-- an optional value as a list
 abbrev pub some_list : {A : Type 0} → Option A → List A
 some_list None = []
 some_list (Some x) = x ∷ []
 
+-- the session of a link
 abbrev pub session_over : LinkRecord → List ℕ
 session_over l = some_list (session_of l.state)
 
+-- the sessions of connections and of links that ended
 abbrev pub sessions : List Conn → List LinkRecord → List ℕ
 sessions cs ls = collect session_in cs ++ collect session_over ls
 
@@ -196,6 +210,7 @@ pub record QuietLists (t : Terms) (aimed : ℕ → LinkRecord → Mail → Type 
   -- each link that came is here, once
   pub came : Perm ℕ (sessions cs ls) (collect fresh_in (bare took))
 
+-- a reactor with nothing on its way
 abbrev pub Quiet : Terms → (ℕ → LinkRecord → Mail → Type 0) → (ℕ → LinkRecord → Ended → Mail → Type 0) → ℕ → Mail → Mail → Reactor → Type 0
 Quiet t aimed whole n took pushed r = QuietLists t aimed whole n took pushed (all r) r.over
 
@@ -205,11 +220,13 @@ AfterTake t aimed whole n took pushed r =
     Quiet t aimed whole n took pushed (settled t false Empty r)
     × ((starved : Bool) (from : ActorId) (m : Message) → IsFair t n (took ++ (from, m) ∷ []) → Quiet t aimed whole n (took ++ (from, m) ∷ []) pushed (settled t starved (Took m) r))
 
+-- an event was asked to be pushed: it was, or it came back
 abbrev pub AfterPush : Terms → (ℕ → LinkRecord → Mail → Type 0) → (ℕ → LinkRecord → Ended → Mail → Type 0) → ℕ → Mail → Mail → ℕ → Message → Reactor → Type 0
 AfterPush t aimed whole n took pushed w m r =
     Quiet t aimed whole n took (pushed ++ (Worker w, m) ∷ []) (settled t false Pushed r)
     × Quiet t aimed whole n took pushed (settled t false (Full m) r)
 
+-- by what it asks
 abbrev pub QuietBy : Terms → (ℕ → LinkRecord → Mail → Type 0) → (ℕ → LinkRecord → Ended → Mail → Type 0) → ℕ → Mail → Mail → Reactor → Ask → Type 0
 QuietBy t aimed whole n took pushed r Take = AfterTake t aimed whole n took pushed r
 QuietBy t aimed whole n took pushed r (Push w m) = AfterPush t aimed whole n took pushed w m r
@@ -217,6 +234,7 @@ QuietBy t aimed whole n took pushed r Nothing = Quiet t aimed whole n took pushe
 QuietBy t aimed whole n took pushed r Rest = Quiet t aimed whole n took pushed r
 QuietBy t aimed whole n took pushed r Finished = Quiet t aimed whole n took pushed r
 
+-- behind a turn
 abbrev pub QuietAfter : Terms → (ℕ → LinkRecord → Mail → Type 0) → (ℕ → LinkRecord → Ended → Mail → Type 0) → ℕ → Mail → Mail → Reactor → Type 0
 QuietAfter t aimed whole n took pushed r = QuietBy t aimed whole n took pushed r r.last
 

@@ -11,7 +11,6 @@ use Rattle.sw_record.specs.Terms.{Terms}
 use Rattle.sw_past.specs.Messages.{Message, FreshMsg, SendMsg, CloseMsg, ResetMsg, Bye, EventMsg, OverMsg, NoMore}
 use Rattle.sw_reactor_table.specs.Conn.{Conn, Answers, Does, Pushes, Moves, Stays, Leaves, fresh, takes, stops, noted, holds, at_event, over_link}
 use Rattle.sw_reactor_table.specs.Reactor.{Reactor, Ask, Take, Push, Nothing, Rest, Finished, all, each_conn, settled, settled_msg, settled_push, settled_full, pushed_by, full_by, turned, rest_by, stayed, served_by, ends_by}
-use Rattle.sw_reactor_table.proofs.Known.{turned_over}
 
 -- what settles keeps it
 pub record Settled (t : Terms) (P : Conn → Type 0) : Type 0 where
@@ -89,6 +88,63 @@ settled_each t P s starved Empty r h = h
 settled_each t P s starved Pushed r h = pushed_each t P s r.last r h
 settled_each t P s starved (Full m) r h = back_each t P s r.last m r h
 settled_each t P s starved gots.Nothing r h = h
+
+-- the links that ended stay
+msg_over : (t : Terms) (starved : Bool) (m : Message) (r : Reactor) → (settled_msg t starved m r).over ≡ r.over
+msg_over t starved (FreshMsg ip s) r = refl
+msg_over t starved (SendMsg s b) r = refl
+msg_over t starved (CloseMsg s) r = refl
+msg_over t starved (ResetMsg s) r = refl
+msg_over t starved (Bye s) r = refl
+msg_over t starved (EventMsg e) r = refl
+msg_over t starved (OverMsg id) r = refl
+msg_over t starved NoMore r = refl
+
+push_over : (t : Terms) (m : Message) (r : Reactor) → (settled_push t m r).over ≡ r.over
+push_over t (FreshMsg ip s) r = refl
+push_over t (SendMsg s b) r = refl
+push_over t (CloseMsg s) r = refl
+push_over t (ResetMsg s) r = refl
+push_over t (Bye s) r = refl
+push_over t (EventMsg e) r = refl
+push_over t (OverMsg id) r = refl
+push_over t NoMore r = refl
+
+full_over : (w : ℕ) (m : Message) (r : Reactor) → (settled_full w m r).over ≡ r.over
+full_over w (FreshMsg ip s) r = refl
+full_over w (SendMsg s b) r = refl
+full_over w (CloseMsg s) r = refl
+full_over w (ResetMsg s) r = refl
+full_over w (Bye s) r = refl
+full_over w (EventMsg e) r = refl
+full_over w (OverMsg id) r = refl
+full_over w NoMore r = refl
+
+pub settled_over : (t : Terms) (starved : Bool) (got : Got Message) (r : Reactor) → (settled t starved got r).over ≡ r.over
+settled_over t starved Start r = refl
+settled_over t starved (Took m) r = msg_over t starved m (record r { empty = false })
+settled_over t starved Empty r = refl
+settled_over t starved Pushed r = by r.last
+  where
+    by : (ask : Ask) → (pushed_by t ask r).over ≡ r.over
+    by Take = refl
+    by (Push w m) = push_over t m r
+    by Nothing = refl
+    by Rest = refl
+    by Finished = refl
+settled_over t starved (Full m) r = by r.last
+  where
+    by : (ask : Ask) → (full_by ask m r).over ≡ r.over
+    by Take = refl
+    by (Push w x) = full_over w m r
+    by Nothing = refl
+    by Rest = refl
+    by Finished = refl
+settled_over t starved gots.Nothing r = refl
+
+pub turned_over : (done cs : List Conn) (r : Reactor) → (turned done cs r).over ≡ r.over
+turned_over done [] r = refl
+turned_over done (c ∷ cs) r = refl
 
 -- of connections and links
 pub record Both (P : Conn → Type 0) (R : LinkRecord → Type 0) (r : Reactor) : Type 0 where
