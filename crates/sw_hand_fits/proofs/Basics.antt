@@ -1,5 +1,5 @@
 -- What is kept as a hand hears, answers and asks.
-use Rattle.std.proofs.Common.{◌≡◌, ◌⊎◌, ℕ, zero, suc, ◌<◌, ◌%◌, ◌==◌, Bool, true, false, if◌then◌else◌, ◌||◌, List, [], refl, ap, ◌∙◌, sym, subst, Option, Some, None, Result, Ok, Err, inl, inr, arith, min, slice_index_or}
+use Rattle.std.proofs.Common.{◌≡◌, ◌⊎◌, ℕ, zero, suc, ◌<◌, ◌≤◌, ◌%◌, ◌==◌, Bool, true, false, if◌then◌else◌, ◌||◌, List, [], refl, ap, ◌∙◌, sym, subst, Option, Some, None, Result, Ok, Err, inl, inr, arith, min, slice_index_or}
 use Rattle.std.proofs.lemmas.Nat.{mod_below}
 use Rattle.sw_lists.proofs.Lists.{eq_same, eq_other}
 use Rattle.sw_step.specs.declared.actor.ActorId.{ActorId}
@@ -30,16 +30,11 @@ use Rattle.sw_hand.specs.declared.stage.Errand.{Errand}
 use Rattle.sw_hand.specs.declared.stage.Stage.{Stage as CodeStage}
 use Rattle.sw_hand.specs.declared.stage.Stage.TheVariants as stages
 use Rattle.sw_hand_laws.specs.Hand.{Ports, Stage, Acting, Sending, Hand, Turned, Push, at_once, asked}
-use Rattle.sw_hand_laws.specs.Moved.{PortsFit}
-use Rattle.sw_hand_fits.specs.Matches.{HouseFits, own_of, Matches, receiver_of, IsErrand, StageFits, ask_of, Came}
+use Rattle.sw_hand_fits.specs.Matches.{HouseFits, own_of, Matches, receiver_of, IsErrand, StageFits, BothActing, BothSending, ask_of, Came, Went}
 
 -- the ports' answers of a turn that asks none of them
 abbrev pub plain : Act → Ports
 plain act = record { look = Live 0; binding = Err fault.BadUid; called = Err BadKey; cells = []; idle = None; sum = 0; act = act }
-
--- a turn found no memory, or came to the tables' turn for some answers that the ports may give
-abbrev pub Went : {H L K : Type 0} → Terms → ActorId → (K → ℕ) → Stage → Hand → CodeHand H → CodeAsk (Msg L K) → (Ports → Turned) → Type 0
-Went t y number st g k ask f = (k.lost ≡ true) ⊎ ((p : Ports) × (PortsFit t st g p × Came t y number k ask (f p)))
 
 -- another handler, row and stage
 pub stays : {H : Type 0} (t : Terms) (y : ActorId) (own : ℕ → Option ℕ) (next out ended : ℕ) (h k : CodeHand H) (x : H) (r : List Value) (s : CodeStage) → k ≡ record h { handler = x; row = r; stage = s } → Matches t y own next out ended h → Matches t y own next out ended k
@@ -55,25 +50,35 @@ pub heard : {H C : Type 0} (acts : Handling H) (goes : Going C) (h : CodeHand H)
 heard acts goes h b g act k d q x = heard_as acts goes h.lost h b g act k d q x
 
 pub answered : {H C : Type 0} (acts : Handling H) (goes : Going C) (h : CodeHand H) (b : C) (c : Current) (a : Answer) (k : CodeHand H) (d : C) → h.lost ≡ false → AtOnce acts goes h b c a k d → (k.lost ≡ true) ⊎ ((act : Act) × ((x : H) × (k ≡ record h { handler = x; stage = stages.Acting c act })))
-answered {H} acts goes h b c a k d q (act, (mid, (hears, e))) = elim (heard acts goes h b (AnswerGiven a) act mid d q hears)
-  [ inl l ↦ inl (ap (λ (z : CodeHand H). z.lost) e ∙ l)
-  | inr m ↦ inr (act, (mid.handler, e ∙ ap (λ (z : CodeHand H). record z { stage = stages.Acting c act }) m)) ]
+answered {H} acts goes h b c a k d q (act, (mid, (hears, e))) = elim (heard acts goes h b (AnswerGiven a) act mid d q hears) [
+  | inl l ↦ inl (ap (λ (z : CodeHand H). z.lost) e ∙ l)
+  | inr m ↦ inr (act, (mid.handler, e ∙ ap (λ (z : CodeHand H). record z { stage = stages.Acting c act }) m))
+]
+
+-- the stages
+pub acting_fits : (next : ℕ) (c : Current) (e : Event) (act : Act) (s : CodeStage) → s ≡ stages.Acting c act → c ≡ current_of e → StageFits next s (Acting e act)
+acting_fits next c e act s q ce = subst (λ (z : CodeStage). StageFits next z (Acting e act)) (sym (q ∙ ap (λ (w : Current). stages.Acting w act) ce)) (BothActing e act)
+
+pub sending_fits : (next : ℕ) (c : Current) (to : Target) (errand : Errand) (e : Event) (act : Act) (x : ActorId) (n : Message) (a : Answer) (s : CodeStage) → s ≡ stages.Sending c to errand → c ≡ current_of e → IsErrand errand act → x ≡ receiver_of to → a ≡ answer_of next errand → StageFits next s (Sending e act x n a)
+sending_fits next c to errand e act x n a s q ce is rx an = subst (λ (z : CodeStage). StageFits next z (Sending e act x n a)) (sym (q ∙ ap (λ (w : Current). stages.Sending w to errand) ce)) (subst (λ (z : ActorId). StageFits next (stages.Sending (current_of e) to errand) (Sending e act z n a)) (sym rx) (subst (λ (z : Answer). StageFits next (stages.Sending (current_of e) to errand) (Sending e act (receiver_of to) n z)) (sym an) (BothSending e act to errand n is)))
 
 -- an answer is given at once
 pub once : {H L K : Type 0} (t : Terms) (y : ActorId) (number : K → ℕ) (g : Hand) (e : Event) (a : Answer) (act : Act) (c : Current) (k : CodeHand H) (ask : CodeAsk (Msg L K)) → Matches t y g.own g.next g.out g.ended k → k.stage ≡ stages.Acting c act → c ≡ current_of e → ask ≡ asks.Nothing → Came t y number k ask (at_once g e a act)
-once t y number g e a act c k ask m q ce w = record { hand = m; stage = subst (λ (s : CodeStage). StageFits g.next s (Acting e act)) (sym q) (ce, refl); ask_is = ap (ask_of number) w }
+once t y number g e a act c k ask m q ce w = record { hand = m; stage = acting_fits g.next c e act k.stage q ce; ask_is = ap (ask_of number) w }
 
 pub answers : {H C L K : Type 0} (t : Terms) (y : ActorId) (number : K → ℕ) (acts : Handling H) (goes : Going C) (g : Hand) (e : Event) (h : CodeHand H) (b : C) (c : Current) (a : Answer) (k : CodeHand H) (d : C) (ask : CodeAsk (Msg L K)) → Matches t y g.own g.next g.out g.ended h → c ≡ current_of e → Answers acts goes h b c a k d ask → (k.lost ≡ true) ⊎ ((act : Act) × Came t y number k ask (at_once g e a act))
-answers {H} t y number acts goes g e h b c a k d ask m ce x = elim (answered acts goes h b c a k d m.kept x.0)
-  [ inl l ↦ inl l
-  | inr (act, (z, q)) ↦ inr (act, once t y number g e a act c k ask (stays t y g.own g.next g.out g.ended h k z h.row (stages.Acting c act) q m) (ap (λ (w : CodeHand H). w.stage) q) ce x.1) ]
+answers {H} t y number acts goes g e h b c a k d ask m ce x = elim (answered acts goes h b c a k d m.kept x.0) [
+  | inl l ↦ inl l
+  | inr (act, (z, q)) ↦ inr (act, once t y number g e a act c k ask (stays t y g.own g.next g.out g.ended h k z h.row (stages.Acting c act) q m) (ap (λ (w : CodeHand H). w.stage) q) ce x.1)
+]
 
 -- a push is asked for
 pub asked_came : {H L K : Type 0} (t : Terms) (y : ActorId) (number : K → ℕ) (g : Hand) (e : Event) (act : Act) (x : ActorId) (n : Message) (a : Answer) (h : CodeHand H) (c : Current) (to : Target) (errand : Errand) (m : Msg L K) (k : CodeHand H) (ask : CodeAsk (Msg L K)) → Matches t y g.own g.next g.out g.ended h → c ≡ current_of e → IsErrand errand act → x ≡ receiver_of to → n ≡ message_of number m → a ≡ answer_of g.next errand → Asks h c to errand m k ask → Came t y number k ask (asked g e act x n a)
 asked_came {H} t y number g e act x n a h c to errand m k ask match ce is rx nm an q = record {
   hand = stays t y g.own g.next g.out g.ended h k h.handler h.row (stages.Sending c to errand) q.0 match;
-  stage = subst (λ (s : CodeStage). StageFits g.next s (Sending e act x n a)) (sym (ap (λ (w : CodeHand H). w.stage) q.0)) (ce, (rx, (is, an)));
-  ask_is = ap (ask_of number) q.1 ∙ ap (λ (z : ActorId). Push z (message_of number m)) (sym rx) ∙ ap (λ (z : Message). Push x z) (sym nm) }
+  stage = sending_fits g.next c to errand e act x n a k.stage (ap (λ (w : CodeHand H). w.stage) q.0) ce is rx an;
+  ask_is = ap (ask_of number) q.1 ∙ ap (λ (z : ActorId). Push z (message_of number m)) (sym rx) ∙ ap (λ (z : Message). Push x z) (sym nm);
+}
 
 -- the settings
 or_if : (v w : Bool) → (v || w) ≡ (if v then true else w)
@@ -90,7 +95,7 @@ pub reactor_same : (t : Terms) (h : House) (s : ℕ) → HouseFits t h → code_
 reactor_same t h s f = ap (λ n. n % h.reactors) (fd_same t h s f) ∙ ap (λ n. (s % t.max_conn) % n) f.reactors
 
 -- a session of one's own
-own_some : (n s : ℕ) → 0 < s → (n == s) ≡ is_some s (own_of n)
+pub own_some : (n s : ℕ) → 0 < s → (n == s) ≡ is_some s (own_of n)
 own_some zero s lt = eq_other 0 s (λ e. omega (arith, e, lt))
 own_some (suc n) s lt = refl
 
@@ -107,3 +112,10 @@ own_same t y own next out ended h c e s m ce lt some = ap (λ v. if v then slice
     pick : (v : Bool) → keeps t.mode ≡ v → (if v then slice_index_or h.own (fd_of h.house s) 0 == s else code_is_of s c) ≡ (if v then is_some s (own (s % t.max_conn)) else is_of s e)
     pick true q = ap (λ n. slice_index_or h.own n 0 == s) (fd_same t h.house s m.house) ∙ own_some (slice_index_or h.own (s % t.max_conn) 0) s lt ∙ sym (ap (is_some s) (m.own_is q (s % t.max_conn) (mod_below s t.max_conn some)))
     pick false q = ap (code_is_of s) ce ∙ event_same s e
+
+-- the lesser of two
+pub min_low : (a b : ℕ) → a ≤ b → min a b ≡ a
+min_low a b le = omega (arith, le)
+
+pub min_high : (a b : ℕ) → b ≤ a → min a b ≡ b
+min_high a b le = omega (arith, le)

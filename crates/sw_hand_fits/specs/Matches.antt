@@ -1,5 +1,6 @@
 -- A hand's code beside a hand of the tables: the settings, the actor, the stage and the counts are the same.
-use Rattle.std.specs.Prelude.{◌≡◌, ℕ, zero, suc, ◌<◌, ◌≤◌, min, Bool, true, false, List, [], ◌∷◌, Option, Some, None, Result, slice_index_or}
+use Rattle.std.specs.Prelude.{◌≡◌, ◌⊎◌, ℕ, zero, suc, ◌<◌, min, Bool, true, false, List, [], ◌∷◌, Option, Some, None, Result, slice_index_or}
+use Rattle.sw_lists.specs.Lists.{Each}
 use Rattle.sw_step.specs.declared.actor.ActorId.{ActorId}
 use Rattle.sw_step.specs.declared.actor.ActorId.TheVariants as actors
 use Rattle.sw_base.specs.declared.table.Call.{Call}
@@ -14,15 +15,13 @@ use Rattle.sw_data.specs.declared.messages.Ask.{Ask as CodeAsk}
 use Rattle.sw_data.specs.declared.messages.Ask.TheVariants as asks
 use Rattle.sw_data.specs.declared.messages.Got.{Got as CodeGot}
 use Rattle.sw_data.specs.declared.messages.Got.TheVariants as gots
-use Rattle.sw_port_board.specs.Board.{SumsUp}
-use Rattle.sw_port_board.specs.declared.crew.Sizes.{Sizes}
 use Rattle.sw_port_shelf.specs.Shelf.{AnswersFit}
 use Rattle.sw_port_shelf.specs.declared.shelf.Placed.{Placed}
-use Rattle.sw_record.specs.Words.{Event, Act, Send, Close, Reset, Bind, Exist, Info, TaskAct, FinishAct, Table, Stats, Shutdown, Done, Answer, Counter}
+use Rattle.sw_record.specs.Words.{Event, Connect, Packet, Closed, Act, Dst, Send, Close, Reset, Bind, Exist, Info, TaskAct, FinishAct, Table, Stats, Shutdown, Done, Answer}
 use Rattle.sw_record.specs.Terms.{Terms, keeps}
-use Rattle.sw_record.specs.Counts.{greatest}
 use Rattle.sw_past.specs.Messages.{Message, message_of}
-use Rattle.sw_hand.specs.Ports.{Going, Calling}
+use Rattle.sw_past.specs.Views.{event_in}
+use Rattle.sw_hand.specs.Ports.{Calling}
 use Rattle.sw_hand.specs.Stage.{current_of, answer_of}
 use Rattle.sw_hand.specs.House.{enders}
 use Rattle.sw_hand.specs.declared.hand.Hand.{Hand as CodeHand}
@@ -33,7 +32,8 @@ use Rattle.sw_hand.specs.declared.stage.Errand.{Errand}
 use Rattle.sw_hand.specs.declared.stage.Errand.TheVariants as errands
 use Rattle.sw_hand.specs.declared.stage.Stage.{Stage as CodeStage}
 use Rattle.sw_hand.specs.declared.stage.Stage.TheVariants as stages
-use Rattle.sw_hand_laws.specs.Hand.{Got, Start, Took, Empty, Pushed, Full, Nothing, Ask, Take, Push, Rest, AskNothing, AskFinished, Stage, Idle, Acting, Sending, Leaving, Stopping, Stopped, Turned}
+use Rattle.sw_hand_laws.specs.Hand.{Ports, Hand, Got, Start, Took, Empty, Pushed, Full, Nothing, Ask, Take, Push, Rest, AskNothing, AskFinished, Stage, Idle, Acting, Sending, Leaving, Stopping, Stopped, Turned}
+use Rattle.sw_hand_laws.specs.Moved.{PortsFit}
 
 -- the actor of a hand's kind
 abbrev pub actor_of : Kind → ActorId
@@ -77,23 +77,21 @@ pub record Matches {H : Type 0} (t : Terms) (y : ActorId) (own : ℕ → Option 
   pub kept : k.lost ≡ false
 
 -- a push is for this act
-abbrev pub IsErrand : Errand → Act → Type 0
-IsErrand errands.Send (Send s b) = Unit {0}
-IsErrand errands.Ask (Close s) = Unit {0}
-IsErrand errands.Ask (Reset s) = Unit {0}
-IsErrand errands.Post (TaskAct d b) = Unit {0}
-IsErrand errands.Finish (FinishAct b) = Unit {0}
-IsErrand _ _ = ⊥
+pub data IsErrand : Errand → Act → Type 0 where
+  ForSend : (s : ℕ) (b : List ℕ) → IsErrand errands.Send (Send s b)
+  ForClose : (s : ℕ) → IsErrand errands.Ask (Close s)
+  ForReset : (s : ℕ) → IsErrand errands.Ask (Reset s)
+  ForPost : (d : Dst) (b : List ℕ) → IsErrand errands.Post (TaskAct d b)
+  ForFinish : (b : List ℕ) → IsErrand errands.Finish (FinishAct b)
 
 -- the stages are the same, but that the code keeps no bytes and no message
-abbrev pub StageFits : ℕ → CodeStage → Stage → Type 0
-StageFits next stages.Idle Idle = Unit {0}
-StageFits next (stages.Acting c act) (Acting e b) = (c ≡ current_of e) × (act ≡ b)
-StageFits next (stages.Sending c to errand) (Sending e act x m a) = (c ≡ current_of e) × ((x ≡ receiver_of to) × (IsErrand errand act × (a ≡ answer_of next errand)))
-StageFits next (stages.Leaving c to) (Leaving e x m) = (c ≡ current_of e) × (x ≡ receiver_of to)
-StageFits next (stages.Stopping n) (Stopping j) = n ≡ j
-StageFits next stages.Finished Stopped = Unit {0}
-StageFits next _ _ = ⊥
+pub data StageFits (next : ℕ) : CodeStage → Stage → Type 0 where
+  BothIdle : StageFits next stages.Idle Idle
+  BothActing : (e : Event) (act : Act) → StageFits next (stages.Acting (current_of e) act) (Acting e act)
+  BothSending : (e : Event) (act : Act) (to : Target) (errand : Errand) (m : Message) → IsErrand errand act → StageFits next (stages.Sending (current_of e) to errand) (Sending e act (receiver_of to) m (answer_of next errand))
+  BothLeaving : (e : Event) (to : Target) (m : Message) → StageFits next (stages.Leaving (current_of e) to) (Leaving e (receiver_of to) m)
+  BothStopping : (n : ℕ) → StageFits next (stages.Stopping n) (Stopping n)
+  BothOver : StageFits next stages.Finished Stopped
 
 -- what is asked for, with messages as histories have them
 abbrev pub ask_of : {L K : Type 0} → (K → ℕ) → CodeAsk (Msg L K) → Ask
@@ -104,14 +102,13 @@ ask_of number asks.Rest = Rest
 ask_of number asks.Finished = AskFinished
 
 -- what a pipe call gave; the tables know who pushed it
-abbrev pub GotIs : {L K : Type 0} → (K → ℕ) → CodeGot (Msg L K) → Got → Type 0
-GotIs number gots.Start Start = Unit {0}
-GotIs number (gots.Took m) (Took from n) = n ≡ message_of number m
-GotIs number gots.Empty Empty = Unit {0}
-GotIs number gots.Pushed Pushed = Unit {0}
-GotIs number (gots.Full m) (Full n) = n ≡ message_of number m
-GotIs number gots.Nothing Nothing = Unit {0}
-GotIs number _ _ = ⊥
+pub data GotIs {L K : Type 0} (number : K → ℕ) : CodeGot (Msg L K) → Got → Type 0 where
+  BothStart : GotIs number gots.Start Start
+  BothTook : (from : ActorId) (m : Msg L K) → GotIs number (gots.Took m) (Took from (message_of number m))
+  BothEmpty : GotIs number gots.Empty Empty
+  BothPushed : GotIs number gots.Pushed Pushed
+  BothFull : (m : Msg L K) → GotIs number (gots.Full m) (Full (message_of number m))
+  BothNothing : GotIs number gots.Nothing Nothing
 
 -- an act's session is none of number 0
 abbrev pub IsNumbered : Act → Type 0
@@ -123,13 +120,34 @@ IsNumbered (Exist s) = 0 < s
 IsNumbered (Info s) = 0 < s
 IsNumbered _ = Unit {0}
 
--- what the ports may answer in a turn: the Table by its columns, and a sum at least this hand's word
-pub record PortsMay {C S : Type 0} (t : Terms) (words : Counter → ℕ) (gives : Calling S) (goes : Going C) (sizes : C → Sizes) (s : S) (b : C) : Type 0 where
-  pub calls : (call : Call) (after : S) (row found : List Value) (r : Result Placed CallFault) → gives s call after row found r → AnswersFit (call_fault t.columns call) r
-  pub sums : (c : Counter) (n : ℕ) (after : C) → SumsUp goes (sizes b) c b n after → (words c ≤ n) × (n ≤ greatest)
+-- an event's session is none of number 0
+abbrev pub IsNumberedEvent : Event → Type 0
+IsNumberedEvent (Connect s) = 0 < s
+IsNumberedEvent (Packet s i b) = 0 < s
+IsNumberedEvent (Closed s) = 0 < s
+IsNumberedEvent _ = Unit {0}
+
+-- an event that was taken is none of number 0
+abbrev pub IsNumberedGot : Got → Type 0
+IsNumberedGot (Took from m) = Each IsNumberedEvent (event_in m)
+IsNumberedGot _ = Unit {0}
+
+-- an act that is to be made, and an event that is to be left, are none of number 0
+abbrev pub IsNumberedStage : Stage → Type 0
+IsNumberedStage (Acting e act) = IsNumbered act
+IsNumberedStage (Leaving e x m) = IsNumberedEvent e
+IsNumberedStage _ = Unit {0}
+
+-- the Table answers by its columns
+abbrev pub CallsMay : {S : Type 0} → Terms → Calling S → S → Type 0
+CallsMay {S} t gives s = (call : Call) (after : S) (row found : List Value) (r : Result Placed CallFault) → gives s call after row found r → AnswersFit (call_fault t.columns call) r
 
 -- a turn of the code that came to what the tables' turn comes to
 pub record Came {H L K : Type 0} (t : Terms) (y : ActorId) (number : K → ℕ) (k : CodeHand H) (ask : CodeAsk (Msg L K)) (r : Turned) : Type 0 where
   pub hand : Matches t y r.hand.own r.hand.next r.hand.out r.hand.ended k
   pub stage : StageFits r.hand.next k.stage r.stage
   pub ask_is : ask_of number ask ≡ r.ask
+
+-- a turn found no memory, or came to the tables' turn for some answers that the ports may give
+abbrev pub Went : {H L K : Type 0} → Terms → ActorId → (K → ℕ) → Stage → Hand → CodeHand H → CodeAsk (Msg L K) → (Ports → Turned) → Type 0
+Went t y number st g k ask f = (k.lost ≡ true) ⊎ ((p : Ports) × (PortsFit t st g p × Came t y number k ask (f p)))
