@@ -12,7 +12,7 @@ use Rattle.sw_hand_laws.specs.Tasks.{Posting, Making}
 use Rattle.sw_hand_laws.specs.Shows.{Showing}
 use Rattle.sw_hand_laws.specs.Ending.{Ending}
 use Rattle.sw_hand_laws.specs.Kept.{Kept, After, Went, Shown, Finished, taken, sent}
-use Rattle.sw_hand_laws.specs.Moved.{PortsFit}
+use Rattle.sw_hand_laws.specs.Moved.{PortsFit, SumFits}
 use Rattle.sw_hand_laws.specs.Course.{new, Course, Begins, Turns, Good}
 use Rattle.sw_hand_laws.proofs.Turns.{turn_keeps}
 use Rattle.sw_hand_laws.proofs.Moments.{pipe_fits, shows, finished}
@@ -43,22 +43,24 @@ new_good t y c left = record {
   generations = record { joined = refl; over = tt; dialogue = tt; events = refl; few = inr (inr (omega arith)); never = λ z. refl; number = omega arith };
   tallied = record { words = λ k. inl (refl, omega arith); sums = tt };
   owns = record { current = λ s. tt; heard = λ s q. refl; spread = λ q n. refl; quiet = λ s f o. refl };
-  fits = tt }
+  fits = tt;
+}
 
-good_turn : (t : Terms) (y : ActorId) (c : ℕ) (left : ℕ) (p : Ports) (st : Stage) (h : Hand) (got after : Got) → IsHand t y → PortsFit t st h p → After t (turn t y c p st h got).ask after → Good t y c left st h got → Good t y c left (turn t y c p st h got).stage (turn t y c p st h got).hand after
-good_turn t y c left p st h got after hand u a g =
-  let went = turn_keeps t y c p st h got hand g.fits g.kept in
-  record {
-    kept = went.kept;
-    fitting = turn_fits t y c p st h got u g.fits g.kept g.fitting;
-    generations = turn_generations t y c (left + 1) p st h got u g.fits g.kept g.generations;
-    tallied = turn_tallied t y c p st h got u g.fits g.kept g.tallied;
-    owns = turn_owns t y c p st h got u g.fits g.kept g.owns;
-    fits = pipe_fits t (turn t y c p st h got).stage (turn t y c p st h got).ask after went.fits a }
+good_turn : (t : Terms) (y : ActorId) (c : ℕ) (left : ℕ) (p : Ports) (st : Stage) (h : Hand) (got after : Got) → IsHand t y → PortsFit t st h p → SumFits st h p → After t (turn t y c p st h got).ask after → Good t y c left st h got → Good t y c left (turn t y c p st h got).stage (turn t y c p st h got).hand after
+good_turn t y c left p st h got after hand u s a g =
+    let went = turn_keeps t y c p st h got hand g.fits g.kept in
+    record {
+      kept = went.kept;
+      fitting = turn_fits t y c p st h got u g.fits g.kept g.fitting;
+      generations = turn_generations t y c (left + 1) p st h got u g.fits g.kept g.generations;
+      tallied = turn_tallied t y c p st h got u s g.fits g.kept g.tallied;
+      owns = turn_owns t y c p st h got u g.fits g.kept g.owns;
+      fits = pipe_fits t (turn t y c p st h got).stage (turn t y c p st h got).ask after went.fits a;
+    }
 
 pub good : (t : Terms) (y : ActorId) (c : ℕ) (left : ℕ) (st : Stage) (h : Hand) (got : Got) → IsHand t y → Course t y c left st h got → Good t y c left st h got
 good t y c left st h got hand Begins = new_good t y c left
-good t y c left st h got hand (Turns st₁ h₁ got₁ p after k u a) = good_turn t y c left p st₁ h₁ got₁ after hand u a (good t y c left st₁ h₁ got₁ hand k)
+good t y c left st h got hand (Turns st₁ h₁ got₁ p after k u s a) = good_turn t y c left p st₁ h₁ got₁ after hand u s a (good t y c left st₁ h₁ got₁ hand k)
 
 -- before each turn, with what is on its way
 pub shows_before : (t : Terms) (y : ActorId) (c : ℕ) (left : ℕ) (st : Stage) (h : Hand) (got : Got) → IsHand t y → Course t y c left st h got → Shown t y (taken got h.took) (sent t st got h.pushed) h.log

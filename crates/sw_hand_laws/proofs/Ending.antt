@@ -118,9 +118,10 @@ farewell_marks t z (suc n) = subst (Each (λ m. ¬ (no_more m ≡ []))) (sym (of
 
 farewell_has : (t : Terms) (k n : ℕ) → k < n → ¬ (of (goodbye t k) (farewell t n) ≡ [])
 farewell_has t k zero lt e = absurd (omega (arith, lt))
-farewell_has t k (suc n) lt e = elim (equal_or_not k n)
-  [ inl q ↦ (let here : when (is (goodbye t n) (goodbye t k)) NoMore ≡ NoMore ∷ [] = subst (λ j. when (is (goodbye t n) (goodbye t j)) NoMore ≡ NoMore ∷ []) (sym q) (ap (λ v. when v NoMore) (is_refl (goodbye t n))) in absurd (let z : NoMore ∷ [] ≡ [] = sym here ∙ (append_none (of (goodbye t k) (farewell t n)) (when (is (goodbye t n) (goodbye t k)) NoMore) (sym (of_more (goodbye t k) (farewell t n) (goodbye t n) NoMore) ∙ e)).1 in cc))
-  | inr ne ↦ farewell_has t k n (omega (arith, lt, ne)) (append_none (of (goodbye t k) (farewell t n)) (when (is (goodbye t n) (goodbye t k)) NoMore) (sym (of_more (goodbye t k) (farewell t n) (goodbye t n) NoMore) ∙ e)).0 ]
+farewell_has t k (suc n) lt e = elim (equal_or_not k n) [
+  | inl q ↦ (let here : when (is (goodbye t n) (goodbye t k)) NoMore ≡ NoMore ∷ [] = subst (λ j. when (is (goodbye t n) (goodbye t j)) NoMore ≡ NoMore ∷ []) (sym q) (ap (λ v. when v NoMore) (is_refl (goodbye t n))) in absurd (let z : NoMore ∷ [] ≡ [] = sym here ∙ (append_none (of (goodbye t k) (farewell t n)) (when (is (goodbye t n) (goodbye t k)) NoMore) (sym (of_more (goodbye t k) (farewell t n) (goodbye t n) NoMore) ∙ e)).1 in cc))
+  | inr ne ↦ farewell_has t k n (omega (arith, lt, ne)) (append_none (of (goodbye t k) (farewell t n)) (when (is (goodbye t n) (goodbye t k)) NoMore) (sym (of_more (goodbye t k) (farewell t n) (goodbye t n) NoMore) ∙ e)).0
+]
 
 marked_end : (f : Message → List ℕ) (xs ms : List Message) → ¬ (ms ≡ []) → Each (λ x. ¬ (f x ≡ [])) ms → LastMarked f (xs ++ ms)
 marked_end f xs [] n h = absurd (n refl)
@@ -164,6 +165,7 @@ all_end f [] h = tt
 all_end f (x ∷ xs) h = all_marked f [] x xs h
 
 pub worker_last_any : (t : Terms) (w : ℕ) (h : Hand) (k : ℕ) → IsRouted t (Worker w) h.pushed → Ending t (Worker w) Stopped h → LastMarked no_more (of (Tasker k) h.pushed)
-worker_last_any t w h k r e = elim (cases_lt k t.tasker_num)
-  [ inl lt ↦ worker_last t w h k lt e
-  | inr ge ↦ all_end no_more (of (Tasker k) h.pushed) (each_more (λ m. MayPush t (Worker w) (Tasker k) m) (λ m. ¬ (no_more m ≡ [])) (of (Tasker k) h.pushed) (λ m p. end_alone t w k m (λ lt. absurd (omega (arith, ge, lt))) p) (of_those (λ m. MayPush t (Worker w) (Tasker k) m) (Tasker k) h.pushed (each_more (λ (p : ActorId × Message). MayPush t (Worker w) p.0 p.1) (λ (p : ActorId × Message). p.0 ≡ Tasker k → MayPush t (Worker w) (Tasker k) p.1) h.pushed (λ p a q. subst (λ (z : ActorId). MayPush t (Worker w) z p.1) q a) r))) ]
+worker_last_any t w h k r e = elim (cases_lt k t.tasker_num) [
+  | inl lt ↦ worker_last t w h k lt e
+  | inr ge ↦ all_end no_more (of (Tasker k) h.pushed) (each_more (λ m. MayPush t (Worker w) (Tasker k) m) (λ m. ¬ (no_more m ≡ [])) (of (Tasker k) h.pushed) (λ m p. end_alone t w k m (λ lt. absurd (omega (arith, ge, lt))) p) (of_those (λ m. MayPush t (Worker w) (Tasker k) m) (Tasker k) h.pushed (each_more (λ (p : ActorId × Message). MayPush t (Worker w) p.0 p.1) (λ (p : ActorId × Message). p.0 ≡ Tasker k → MayPush t (Worker w) (Tasker k) p.1) h.pushed (λ p a q. subst (λ (z : ActorId). MayPush t (Worker w) z p.1) q a) r)))
+]

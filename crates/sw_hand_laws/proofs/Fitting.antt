@@ -60,8 +60,8 @@ log_fits t v h e act a next r q f k = fits_end t v at_start Done h.log (AnswerGi
 
 moved_on : (t : Terms) (log : Log) (own : ℕ → Option ℕ) (es : List Event) (n m : ℕ) (a : Answer) (next : Act) → (replay_after t at_start log).own ≡ own → (replay_after t at_start log).event ≡ es → (replay_after t at_start log).next ≡ n → next_with n a ≡ m → ((replay_after t at_start (log ++ (AnswerGiven a, next) ∷ [])).own ≡ own) × (((replay_after t at_start (log ++ (AnswerGiven a, next) ∷ [])).event ≡ es) × ((replay_after t at_start (log ++ (AnswerGiven a, next) ∷ [])).next ≡ m))
 moved_on t log own es n m a next o v i q =
-  let e : replay_after t at_start (log ++ (AnswerGiven a, next) ∷ []) ≡ replay_then t (replay_after t at_start log) (AnswerGiven a) = replay_end t at_start log (AnswerGiven a) next in
-  (ap (λ (r : Replay). r.own) e ∙ o, (ap (λ (r : Replay). r.event) e ∙ v, ap (λ (r : Replay). r.next) e ∙ ap (λ j. next_with j a) i ∙ q))
+    let e : replay_after t at_start (log ++ (AnswerGiven a, next) ∷ []) ≡ replay_then t (replay_after t at_start log) (AnswerGiven a) = replay_end t at_start log (AnswerGiven a) next in
+    (ap (λ (r : Replay). r.own) e ∙ o, (ap (λ (r : Replay). r.event) e ∙ v, ap (λ (r : Replay). r.next) e ∙ ap (λ j. next_with j a) i ∙ q))
 
 full_fits : (t : Terms) (y : ActorId) (h : Hand) (e : Event) (d : Dst) (b : List ℕ) (to : ActorId) (m : Message) (a : Answer) → Carried t y h.next e (TaskAct d b) to m a → Fits t (is_worker y) h.own h.next e (TaskAct d b) a → MayPost t (is_worker y) h.next d
 full_fits t y h e d b to m a (CPost w k u v q f lt) p = p.0
@@ -90,7 +90,7 @@ none_leaves t (Tasker k) own e m q = tasker_leaves t own k e m
 -- a hand's last act, and what is on its way
 pub holds_moves : (t : Terms) (y : ActorId) (c : ℕ) (a b : Stage) (f g : Hand) → Moved t y c a f b g → Holds t y a f → Holds t y b g
 holds_moves t y c a b f g (Waits st h) k = k
-holds_moves t y c a b f g (Answers h e act after ans next may q fit sums) k = record { last = last_is Done h.log (AnswerGiven ans) next; mine = k.mine; carries = tt }
+holds_moves t y c a b f g (Answers h e act after ans next may q fit) k = record { last = last_is Done h.log (AnswerGiven ans) next; mine = k.mine; carries = tt }
 holds_moves t y c a b f g (Aims h e act after to m ans car fit aim) k = record { last = k.last; mine = k.mine; carries = car }
 holds_moves t y c a b f g (Sends h e act to m ans next) k = record { last = last_is Done h.log (AnswerGiven ans) next; mine = k.mine; carries = tt }
 holds_moves t y c a b f g (Fulls h e d s to m ans after next) k = record { last = last_is Done h.log (AnswerGiven TaskFull) next; mine = k.mine; carries = tt }
@@ -116,7 +116,7 @@ holds t y Stopped h k = record { last = k.speaks.last; mine = k.speaks.mine; car
 
 pub fitting_moves : (t : Terms) (y : ActorId) (c : ℕ) (a b : Stage) (f g : Hand) → Moved t y c a f b g → Holds t y a f → Fitting t y a f → Fitting t y b g
 fitting_moves t y c a b f g (Waits st h) held k = k
-fitting_moves t y c a b f g (Answers h e act after ans next may q fit sums) held k = record { fits = log_fits t (is_worker y) h e act ans next k.replayed held.last fit k.fits; replayed = moved_on t h.log h.own (e ∷ []) h.next h.next ans next k.replayed.0 k.replayed.1.0 k.replayed.1.1 (silent_next h.next ans q); pending = tt }
+fitting_moves t y c a b f g (Answers h e act after ans next may q fit) held k = record { fits = log_fits t (is_worker y) h e act ans next k.replayed held.last fit k.fits; replayed = moved_on t h.log h.own (e ∷ []) h.next h.next ans next k.replayed.0 k.replayed.1.0 k.replayed.1.1 (silent_next h.next ans q); pending = tt }
 fitting_moves t y c a b f g (Aims h e act after to m ans car fit aim) held k = record { fits = k.fits; replayed = k.replayed; pending = (fit, aim) }
 fitting_moves t y c a b f g (Sends h e act to m ans next) held k = record { fits = log_fits t (is_worker y) h e act ans next k.replayed held.last k.pending.0 k.fits; replayed = moved_on t h.log h.own (e ∷ []) h.next (next_with h.next ans) ans next k.replayed.0 k.replayed.1.0 k.replayed.1.1 refl; pending = tt }
 fitting_moves t y c a b f g (Fulls h e d s to m ans after next) held k = record { fits = log_fits t (is_worker y) h e (TaskAct d s) TaskFull next k.replayed held.last (full_fits t y h e d s to m ans held.carries k.pending.0) k.fits; replayed = moved_on t h.log h.own (e ∷ []) h.next h.next TaskFull next k.replayed.0 k.replayed.1.0 k.replayed.1.1 refl; pending = tt }

@@ -52,7 +52,10 @@ generations_say c num h seen act a next q may g = record {
   over = g.over;
   dialogue = follows Done h.current (AnswerGiven a) next g.dialogue (subst (λ (x : Act). MayFollow x (AnswerGiven a)) (sym (current_last c h.gone h.current h.log g.over g.joined ∙ q)) may);
   events = g.events ∙ sym (ap length (told_same h.current a next));
-  few = g.few; never = g.never; number = g.number }
+  few = g.few;
+  never = g.never;
+  number = g.number;
+}
 
 pub generations_answered : (c : ℕ) (num : ℕ) (h : Hand) (act : Act) (to : ActorId) (m : Message) (a : Answer) (next : Act) → last_after Done h.log ≡ act → MayFollow act (AnswerGiven a) → Generations c num h → Generations c num (answered h to m a next)
 generations_answered c num h act to m a next q may g = record {
@@ -60,7 +63,10 @@ generations_answered c num h act to m a next q may g = record {
   over = g.over;
   dialogue = follows Done h.current (AnswerGiven a) next g.dialogue (subst (λ (x : Act). MayFollow x (AnswerGiven a)) (sym (current_last c h.gone h.current h.log g.over g.joined ∙ q)) may);
   events = g.events ∙ sym (ap length (told_same h.current a next));
-  few = g.few; never = g.never; number = g.number }
+  few = g.few;
+  never = g.never;
+  number = g.number;
+}
 
 -- whether the handler changes
 due_is : (c : ℕ) (h : Hand) → is_due c h ≡ true → (¬ (c ≡ 0)) × ((h.events ≡ c) × (0 < h.left))
@@ -90,35 +96,39 @@ some_events log n e z (inl q) = absurd (z (sym e ∙ ap (λ l. length (events_of
 some_events log n e z (inr d) = d
 
 few_more : (c : ℕ) (h : Hand) → is_due c h ≡ false → (c ≡ 0) ⊎ ((h.left ≡ 0) ⊎ (h.events ≤ c)) → (c ≡ 0) ⊎ ((h.left ≡ 0) ⊎ (h.events + 1 ≤ c))
-few_more c h q f = elim (due_not c h q)
-  [ inl z ↦ inl z
+few_more c h q f = elim (due_not c h q) [
+  | inl z ↦ inl z
   | inr (inl z) ↦ inr (inl z)
-  | inr (inr n) ↦ elim f [ inl z ↦ inl z | inr (inl z) ↦ inr (inl z) | inr (inr le) ↦ inr (inr (omega (arith, le, n))) ] ]
+  | inr (inr n) ↦ elim f [ inl z ↦ inl z | inr (inl z) ↦ inr (inl z) | inr (inr le) ↦ inr (inr (omega (arith, le, n))) ]
+]
 
 heard_if : (t : Terms) (c : ℕ) (num : ℕ) (h : Hand) (from : ActorId) (e : Event) (act : Act) (v : Bool) → is_due c h ≡ v → last_after Done h.log ≡ Done → Generations c num h → Generations c num (record (hear t c h from e act) {
   gone = if v then h.gone ++ h.current ∷ [] else h.gone;
   current = if v then (EventGiven e, act) ∷ [] else h.current ++ (EventGiven e, act) ∷ [];
   events = if v then 1 else h.events + 1;
-  left = if v then h.left - 1 else h.left })
+  left = if v then h.left - 1 else h.left;
+})
 heard_if t c num h from e act true q last g =
-  let due = due_is c h q in
-  let num_events : length (events_of h.current) ≡ c = sym g.events ∙ due.1.0 in
-  record {
-    joined = ap (λ (l : Log). l ++ (EventGiven e, act) ∷ []) (concat_more h.gone h.current ∙ g.joined);
-    over = each_append (IsOver c) h.gone (h.current ∷ []) g.over ((g.dialogue, (num_events, some_events h.current c num_events due.0 (ends_done Done h.current (current_last c h.gone h.current h.log g.over g.joined ∙ last)))), tt);
-    dialogue = (tt, tt);
-    events = refl;
-    few = inr (inr (omega (arith, due.0)));
-    never = λ z. absurd (due.0 z);
-    number = omega (arith, g.number, due.1.1, length_append h.gone (h.current ∷ [])) }
+    let due = due_is c h q in
+    let num_events : length (events_of h.current) ≡ c = sym g.events ∙ due.1.0 in
+    record {
+      joined = ap (λ (l : Log). l ++ (EventGiven e, act) ∷ []) (concat_more h.gone h.current ∙ g.joined);
+      over = each_append (IsOver c) h.gone (h.current ∷ []) g.over ((g.dialogue, (num_events, some_events h.current c num_events due.0 (ends_done Done h.current (current_last c h.gone h.current h.log g.over g.joined ∙ last)))), tt);
+      dialogue = (tt, tt);
+      events = refl;
+      few = inr (inr (omega (arith, due.0)));
+      never = λ z. absurd (due.0 z);
+      number = omega (arith, g.number, due.1.1, length_append h.gone (h.current ∷ []));
+    }
 heard_if t c num h from e act false q last g = record {
-    joined = joined_more (collect entries h.gone) h.current h.log (EventGiven e, act) g.joined;
-    over = g.over;
-    dialogue = follows Done h.current (EventGiven e) act g.dialogue (subst (λ (x : Act). MayFollow x (EventGiven e)) (sym (current_last c h.gone h.current h.log g.over g.joined ∙ last)) tt);
-    events = omega (arith, g.events, ap length (one_more event_of h.current (EventGiven e, act)), length_append (events_of h.current) (e ∷ []));
-    few = few_more c h q g.few;
-    never = g.never;
-    number = g.number }
+  joined = joined_more (collect entries h.gone) h.current h.log (EventGiven e, act) g.joined;
+  over = g.over;
+  dialogue = follows Done h.current (EventGiven e) act g.dialogue (subst (λ (x : Act). MayFollow x (EventGiven e)) (sym (current_last c h.gone h.current h.log g.over g.joined ∙ last)) tt);
+  events = omega (arith, g.events, ap length (one_more event_of h.current (EventGiven e, act)), length_append (events_of h.current) (e ∷ []));
+  few = few_more c h q g.few;
+  never = g.never;
+  number = g.number;
+}
 
 pub generations_hear : (t : Terms) (c : ℕ) (num : ℕ) (h : Hand) (from : ActorId) (e : Event) (act : Act) → last_after Done h.log ≡ Done → Generations c num h → Generations c num (hear t c h from e act)
 generations_hear t c num h from e act last g = heard_if t c num h from e act (is_due c h) refl last g
@@ -132,7 +142,8 @@ generations_same c num h other l o u e n g = record {
   events = e ∙ g.events ∙ sym (ap (λ x. length (events_of x)) u);
   few = elim g.few [ inl z ↦ inl z | inr (inl z) ↦ inr (inl (n ∙ z)) | inr (inr le) ↦ inr (inr (omega (arith, le, e))) ];
   never = λ z. o ∙ g.never z;
-  number = omega (arith, g.number, n, ap length o) }
+  number = omega (arith, g.number, n, ap length o);
+}
 
 may_carried : (t : Terms) (y : ActorId) (next : ℕ) (e : Event) (act : Act) (to : ActorId) (m : Message) (a : Answer) → Carried t y next e act to m a → MayFollow act (AnswerGiven a)
 may_carried t y next e act to m a (CSend s b) = tt
@@ -143,7 +154,7 @@ may_carried t y next e act to m a (CGive w id c b q) = tt
 
 pub generations_moves : (t : Terms) (y : ActorId) (c : ℕ) (num : ℕ) (a b : Stage) (f g : Hand) → Moved t y c a f b g → Holds t y a f → Generations c num f → Generations c num g
 generations_moves t y c num a b f g (Waits st h) held k = k
-generations_moves t y c num a b f g (Answers h e act after ans next may q fit sums) held k = generations_say c num h after act ans next held.last may k
+generations_moves t y c num a b f g (Answers h e act after ans next may q fit) held k = generations_say c num h after act ans next held.last may k
 generations_moves t y c num a b f g (Aims h e act after to m ans car fit aim) held k = generations_same c num h (record h { seen = after }) refl refl refl refl refl k
 generations_moves t y c num a b f g (Sends h e act to m ans next) held k = generations_answered c num h act to m ans next held.last (may_carried t y h.next e act to m ans held.carries) k
 generations_moves t y c num a b f g (Fulls h e d s to m ans after next) held k = generations_say c num h after (TaskAct d s) TaskFull next held.last tt k

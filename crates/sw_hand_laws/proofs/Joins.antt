@@ -29,7 +29,7 @@ use Rattle.sw_hand_laws.specs.Shows.{Found}
 use Rattle.sw_hand_laws.specs.Course.{Course}
 use Rattle.sw_hand_laws.specs.Joins.{Shows, Hands, HandsDone}
 use Rattle.sw_hand_laws.proofs.Course.{good, shows_before, kept_behind}
-use Rattle.sw_hand_laws.specs.Moved.{PortsFit}
+use Rattle.sw_hand_laws.specs.Moved.{PortsFit, SumFits}
 use Rattle.sw_hand_laws.proofs.Moments.{shown_still}
 use Rattle.sw_hand_laws.proofs.Fitting.{turn_fits}
 use Rattle.sw_hand_laws.proofs.Generations.{turn_generations}
@@ -38,12 +38,26 @@ use Rattle.sw_hand_laws.proofs.Tallying.{turn_tallied, least_of, words_most}
 -- a hand before a turn, whatever is on its way
 pub before_turn : (t : Terms) (y : ActorId) (c : ℕ) (left : ℕ) (st : Stage) (h : Hand) (got : Got) → IsHand t y → Course t y c left st h got → Shows t y c left (taken got h.took) (sent t st got h.pushed) h.log h
 before_turn t y c left st h got hand k = let g = good t y c left st h got hand k in record {
-  log_is = refl; shown = shows_before t y c left st h got hand k; stage = st; showing = g.kept.showing; fits = g.fitting.fits; generations = g.generations; tallied = g.tallied }
+  log_is = refl;
+  shown = shows_before t y c left st h got hand k;
+  stage = st;
+  showing = g.kept.showing;
+  fits = g.fitting.fits;
+  generations = g.generations;
+  tallied = g.tallied;
+}
 
 -- a hand behind a turn, with its ask not yet made
-pub behind_turn : (t : Terms) (y : ActorId) (c : ℕ) (left : ℕ) (p : Ports) (st : Stage) (h : Hand) (got : Got) → IsHand t y → PortsFit t st h p → Course t y c left st h got → Shows t y c left (turn t y c p st h got).hand.took (turn t y c p st h got).hand.pushed (turn t y c p st h got).hand.log (turn t y c p st h got).hand
-behind_turn t y c left p st h got hand u k = let g = good t y c left st h got hand k in let w = kept_behind t y c left p st h got hand k in record {
-  log_is = refl; shown = shown_still t y (turn t y c p st h got).stage (turn t y c p st h got).hand w.kept (turn_fits t y c p st h got u g.fits g.kept g.fitting).fits; stage = (turn t y c p st h got).stage; showing = w.kept.showing; fits = (turn_fits t y c p st h got u g.fits g.kept g.fitting).fits; generations = turn_generations t y c (left + 1) p st h got u g.fits g.kept g.generations; tallied = turn_tallied t y c p st h got u g.fits g.kept g.tallied }
+pub behind_turn : (t : Terms) (y : ActorId) (c : ℕ) (left : ℕ) (p : Ports) (st : Stage) (h : Hand) (got : Got) → IsHand t y → PortsFit t st h p → SumFits st h p → Course t y c left st h got → Shows t y c left (turn t y c p st h got).hand.took (turn t y c p st h got).hand.pushed (turn t y c p st h got).hand.log (turn t y c p st h got).hand
+behind_turn t y c left p st h got hand u m k = let g = good t y c left st h got hand k in let w = kept_behind t y c left p st h got hand k in record {
+  log_is = refl;
+  shown = shown_still t y (turn t y c p st h got).stage (turn t y c p st h got).hand w.kept (turn_fits t y c p st h got u g.fits g.kept g.fitting).fits;
+  stage = (turn t y c p st h got).stage;
+  showing = w.kept.showing;
+  fits = (turn_fits t y c p st h got u g.fits g.kept g.fitting).fits;
+  generations = turn_generations t y c (left + 1) p st h got u g.fits g.kept g.generations;
+  tallied = turn_tallied t y c p st h got u m g.fits g.kept g.tallied;
+}
 
 of_log : (t : Terms) (y : ActorId) (c : ℕ) (left : ℕ) (took pushed : Mail) (log : Log) (h : Hand) → Shows t y c left took pushed log h → Shown t y took pushed log
 of_log t y c left took pushed log h s = subst (Shown t y took pushed) (sym s.log_is) s.shown
@@ -54,7 +68,8 @@ hand_local t c left p at k y hand = (of_log t y c left (p.took y) (p.pushed y) (
 pub task_locals : (t : Terms) (c : ℕ) (left : ℕ) (p : Past) (at : ActorId → Hand) → Hands t c left p at → TaskLocals t p
 task_locals t c left p at k = record {
   worker = λ w lt. (of_log t (Worker w) c left (p.took (Worker w)) (p.pushed (Worker w)) (p.log (Worker w)) (at (Worker w)) (k.shows (Worker w) (inl (w, (lt, refl))))).post w refl;
-  tasker = λ j lt. (of_log t (Tasker j) c left (p.took (Tasker j)) (p.pushed (Tasker j)) (p.log (Tasker j)) (at (Tasker j)) (k.shows (Tasker j) (inr (j, (lt, refl))))).finish }
+  tasker = λ j lt. (of_log t (Tasker j) c left (p.took (Tasker j)) (p.pushed (Tasker j)) (p.log (Tasker j)) (at (Tasker j)) (k.shows (Tasker j) (inr (j, (lt, refl))))).finish;
+}
 
 -- causes
 pub asks_local : (t : Terms) (c : ℕ) (left : ℕ) (p : Past) (at : ActorId → Hand) → Hands t c left p at → (y : ActorId) → IsHand t y → Each (λ (e : ActorId × Message). AskLaw (p.log y) e.1) (p.pushed y)

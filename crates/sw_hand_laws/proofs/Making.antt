@@ -36,7 +36,8 @@ making_at_once h e act seen a next q k = record {
   gave = λ w. k.gave w ∙ sym (given_same w h.log (AnswerGiven a) next (silent_gave (now_after w [] h.log) (last_after Done h.log) a q));
   nows = λ w. (now_same w h.log a next e (k.nows w).0, tt);
   overs = λ w. k.overs w ∙ sym (ap length (tasks_same w h.log a next));
-  last = k.last }
+  last = k.last;
+}
 
 -- the same, with another stage
 pub making_stage : (st other : Stage) (h : Hand) (seen : Seen) → now st ≡ now other → Making st h → Making other (record h { seen = seen })
@@ -44,7 +45,8 @@ making_stage st other h seen q k = record {
   gave = k.gave;
   nows = λ w. subst (λ es. Each (λ e. now_after w [] h.log ≡ now_of w e) es) q (k.nows w);
   overs = λ w. subst (λ es. length (collect over_in (of (Worker w) h.pushed)) + length (collect (task_of w) es) ≡ length (tasks_of w h.log)) q (k.overs w);
-  last = λ w. subst (λ es. LastMarked over_in (of (Worker w) h.pushed) ⊎ (¬ (collect (task_of w) es ≡ []))) q (k.last w) }
+  last = λ w. subst (λ es. LastMarked over_in (of (Worker w) h.pushed) ⊎ (¬ (collect (task_of w) es ≡ []))) q (k.last w);
+}
 
 -- a message that goes to no worker
 unheard : (w : ℕ) (pushed : Mail) (to : ActorId) (m : Message) → is to (Worker w) ≡ false → of (Worker w) (pushed ++ (to, m) ∷ []) ≡ of (Worker w) pushed
@@ -55,17 +57,19 @@ making_settle st h to m f k = record {
   gave = λ w. ap (collect finish_in) (unheard w h.pushed to m (f w)) ∙ k.gave w;
   nows = k.nows;
   overs = λ w. ap (λ ms. length (collect over_in ms) + length (collect (task_of w) (now st))) (unheard w h.pushed to m (f w)) ∙ k.overs w;
-  last = λ w. subst (λ ms. LastMarked over_in ms ⊎ (¬ (collect (task_of w) (now st) ≡ []))) (sym (unheard w h.pushed to m (f w))) (k.last w) }
+  last = λ w. subst (λ ms. LastMarked over_in ms ⊎ (¬ (collect (task_of w) (now st) ≡ []))) (sym (unheard w h.pushed to m (f w))) (k.last w);
+}
 
 -- the act's message
 quiet_answered : (h : Hand) (e : Event) (act : Act) (to : ActorId) (m : Message) (a : Answer) (next : Act) → ((w : ℕ) → is to (Worker w) ≡ false) → ((ns : List ℕ) (x : Act) → gave_by ns x (AnswerGiven a) ≡ []) → Making (Sending e act to m a) h → Making (Acting e next) (answered h to m a next)
 quiet_answered h e act to m a next f g k =
-  let s : Making (Sending e act to m a) (settle h to m) = making_settle (Sending e act to m a) h to m f k in
-  record {
-    gave = λ w. s.gave w ∙ sym (given_same w h.log (AnswerGiven a) next (g (now_after w [] h.log) (last_after Done h.log)));
-    nows = λ w. (now_same w h.log a next e (k.nows w).0, tt);
-    overs = λ w. s.overs w ∙ sym (ap length (tasks_same w h.log a next));
-    last = s.last }
+    let s : Making (Sending e act to m a) (settle h to m) = making_settle (Sending e act to m a) h to m f k in
+    record {
+      gave = λ w. s.gave w ∙ sym (given_same w h.log (AnswerGiven a) next (g (now_after w [] h.log) (last_after Done h.log)));
+      nows = λ w. (now_same w h.log a next e (k.nows w).0, tt);
+      overs = λ w. s.overs w ∙ sym (ap length (tasks_same w h.log a next));
+      last = s.last;
+    }
 
 finish_when : (v : Bool) (id : ℕ) (b c : List ℕ) → collect finish_in (when v (EventMsg (Finish id b))) ≡ collect (with_bytes b) (numbers (when v (id, c)))
 finish_when true id b c = refl
@@ -80,7 +84,8 @@ give_carried h v id c b next q k = record {
   gave = λ w. of_collect finish_in (Worker w) h.pushed (Worker v) (EventMsg (Finish id b)) ∙ ap (λ (ps : List (ℕ × List ℕ)). ps ++ collect finish_in (when (v == w) (EventMsg (Finish id b)))) (k.gave w) ∙ ap (λ ps. given_after w [] Done h.log ++ ps) (finish_when (v == w) id b c ∙ sym (ap (collect (with_bytes b)) (k.nows w).0) ∙ ap (λ (x : Act). gave_by (now_after w [] h.log) x (AnswerGiven Finished)) (sym q)) ∙ sym (given_more w h.log (AnswerGiven Finished) next);
   nows = λ w. (now_same w h.log Finished next (Task v id c) (k.nows w).0, tt);
   overs = λ w. ap (λ ns. length ns + length (collect (task_of w) (Task v id c ∷ []))) (of_collect over_in (Worker w) h.pushed (Worker v) (EventMsg (Finish id b)) ∙ ap (λ ns. collect over_in (of (Worker w) h.pushed) ++ ns) (no_over (v == w) id b) ∙ append-nil (collect over_in (of (Worker w) h.pushed))) ∙ k.overs w ∙ sym (ap length (tasks_same w h.log Finished next));
-  last = λ w. pick w (v == w) refl }
+  last = λ w. pick w (v == w) refl;
+}
   where
     pick : (w : ℕ) (x : Bool) → v == w ≡ x → LastMarked over_in (of (Worker w) (h.pushed ++ (Worker v, EventMsg (Finish id b)) ∷ [])) ⊎ (¬ (collect (task_of w) (Task v id c ∷ []) ≡ []))
     pick w true r = inr (λ e. absurd (let z : (id, c) ∷ [] ≡ [] = ap (λ y. when y (id, c)) (sym r) ∙ sym (append-nil (when (v == w) (id, c))) ∙ e in cc))
@@ -98,7 +103,8 @@ making_hear t c h from e act k = record {
   gave = λ w. k.gave w ∙ sym (given_same w h.log (EventGiven e) act refl);
   nows = λ w. (now_is w [] h.log (EventGiven e) act, tt);
   overs = λ w. (let more : tasks_of w (h.log ++ (EventGiven e, act) ∷ []) ≡ tasks_of w h.log ++ task_of w e = ap (collect (task_of w)) (one_more event_of h.log (EventGiven e, act)) ∙ one_more (task_of w) (events_of h.log) e in omega (arith, k.overs w, ap length more, length_append (tasks_of w h.log) (task_of w e), ap length (append-nil (task_of w e))));
-  last = λ w. elim (k.last w) [ inl m ↦ inl m | inr n ↦ absurd (n refl) ] }
+  last = λ w. elim (k.last w) [ inl m ↦ inl m | inr n ↦ absurd (n refl) ];
+}
 
 pub making_skip : (st : Stage) (h : Hand) (from : ActorId) (m : Message) → Making st h → Making st (skip h from m)
 making_skip st h from m k = record { gave = k.gave; nows = k.nows; overs = k.overs; last = k.last }
@@ -110,9 +116,11 @@ no_task (p ∷ ps) q = absurd (cc)
 
 pub making_over : (t : Terms) (y : ActorId) (h : Hand) (e : Event) (act : Act) → for_hand y e ≡ e ∷ [] → last_words t y e ≡ [] → Making (Acting e act) h → Making Idle h
 making_over t y h e act mine none k = record {
-  gave = k.gave; nows = λ w. tt;
+  gave = k.gave;
+  nows = λ w. tt;
   overs = λ w. ap (λ (ps : List (ℕ × List ℕ)). length (collect over_in (of (Worker w) h.pushed)) + length ps) (sym (untasked w)) ∙ k.overs w;
-  last = λ w. elim (k.last w) [ inl m ↦ inl m | inr n ↦ absurd (n (untasked w)) ] }
+  last = λ w. elim (k.last w) [ inl m ↦ inl m | inr n ↦ absurd (n (untasked w)) ];
+}
   where
     untasked : (w : ℕ) → collect (task_of w) (e ∷ []) ≡ []
     untasked w = append-nil (task_of w e) ∙ no_task (task_of w e) (sym (words_to t y w e mine) ∙ ap (of (Worker w)) none)
@@ -139,7 +147,8 @@ making_left t y h e to m mine q k = record {
   gave = λ w. ap (collect finish_in) (now_has w) ∙ collect-append finish_in (of (Worker w) h.pushed) (collect over_msg (task_of w e)) ∙ ap (λ ps. collect finish_in (of (Worker w) h.pushed) ++ ps) (over_free (task_of w e)) ∙ append-nil (collect finish_in (of (Worker w) h.pushed)) ∙ k.gave w;
   nows = λ w. tt;
   overs = λ w. omega (arith, k.overs w, ap (λ ms. length (collect over_in ms)) (now_has w), ap length (collect-append over_in (of (Worker w) h.pushed) (collect over_msg (task_of w e))), length_append (collect over_in (of (Worker w) h.pushed)) (collect over_in (collect over_msg (task_of w e))), over_num (task_of w e), ap length (append-nil (task_of w e)));
-  last = λ w. inl (subst (LastMarked over_in) (sym (now_has w)) (over_last (of (Worker w) h.pushed) (task_of w e) (k.last w))) }
+  last = λ w. inl (subst (LastMarked over_in) (sym (now_has w)) (over_last (of (Worker w) h.pushed) (task_of w e) (k.last w)));
+}
   where
     now_has : (w : ℕ) → of (Worker w) (h.pushed ++ (to, m) ∷ []) ≡ of (Worker w) h.pushed ++ collect over_msg (task_of w e)
     now_has w = of_more (Worker w) h.pushed to m ∙ ap (λ ms. of (Worker w) h.pushed ++ ms) (sym (append-nil (when (is to (Worker w)) m)) ∙ ap (of (Worker w)) (sym q) ∙ words_to t y w e mine)

@@ -40,6 +40,7 @@ take_fits t Empty a = tt
 take_fits t Pushed a = absurd a
 take_fits t (Full n) a = absurd a
 take_fits t Nothing a = absurd a
+
 rest_fits : (t : Terms) (got : Got) → After t Rest got → GotFits t Idle got
 rest_fits t Start a = absurd a
 rest_fits t (Took x n) a = absurd a
@@ -47,6 +48,7 @@ rest_fits t Empty a = absurd a
 rest_fits t Pushed a = absurd a
 rest_fits t (Full n) a = absurd a
 rest_fits t Nothing a = tt
+
 nothing_fits : (t : Terms) (got : Got) → After t AskNothing got → got ≡ Nothing
 nothing_fits t Start a = absurd a
 nothing_fits t (Took x n) a = absurd a
@@ -54,6 +56,7 @@ nothing_fits t Empty a = absurd a
 nothing_fits t Pushed a = absurd a
 nothing_fits t (Full n) a = absurd a
 nothing_fits t Nothing a = refl
+
 push_fits : (t : Terms) (to : ActorId) (m : Message) (got : Got) → After t (Push to m) got → PushFits t to m got
 push_fits t to m Start a = absurd a
 push_fits t to m (Took x n) a = absurd a
@@ -61,6 +64,7 @@ push_fits t to m Empty a = absurd a
 push_fits t to m Pushed a = a
 push_fits t to m (Full n) a = a
 push_fits t to m Nothing a = absurd a
+
 finish_fits : (t : Terms) (got : Got) → After t AskFinished got → ⊥
 finish_fits t Start a = absurd a
 finish_fits t (Took x n) a = absurd a
@@ -129,7 +133,8 @@ hand_sent t y h e act to m a hand there k fit = record {
   told = ([], append-nil (events_of h.log) ∙ k.told);
   dialogue = k.dialogue;
   fits = fit;
-  talk = λ s. ([], append-nil (collect (talk_in s) (of (Reactor (reactor_of t s)) (h.pushed ++ (to, m) ∷ []))) ∙ of_collect (talk_in s) (Reactor (reactor_of t s)) h.pushed to m ∙ ap (λ (ms : List Message). ms ++ heard_by t s to m) (k.talk s) ∙ ap (λ (ms : List Message). settled t s h.log ++ ms) (last_carried t y h.next e act to m a s (owed_after t s [] h.log) k.carries ∙ ap (λ (x : Act). said_last s (owed_after t s [] h.log) x) (sym k.last)) ∙ sym (said_settled t s h.log)) }
+  talk = λ s. ([], append-nil (collect (talk_in s) (of (Reactor (reactor_of t s)) (h.pushed ++ (to, m) ∷ []))) ∙ of_collect (talk_in s) (Reactor (reactor_of t s)) h.pushed to m ∙ ap (λ (ms : List Message). ms ++ heard_by t s to m) (k.talk s) ∙ ap (λ (ms : List Message). settled t s h.log ++ ms) (last_carried t y h.next e act to m a s (owed_after t s [] h.log) k.carries ∙ ap (λ (x : Act). said_last s (owed_after t s [] h.log) x) (sym k.last)) ∙ sym (said_settled t s h.log));
+}
 
 -- nothing on its way
 pub shown_still : (t : Terms) (y : ActorId) (st : Stage) (h : Hand) → Kept t y st h → AnswersFitLog t (is_worker y) h.log → Shown t y h.took h.pushed h.log
@@ -139,7 +144,8 @@ shown_still t y st h k fit = record {
   finish = finish_law st h k.making;
   asks = each_more (λ (p : ActorId × Message). Asks h.log p.1) (λ (p : ActorId × Message). AskLaw h.log p.1) h.pushed (λ p a. ask_law h.log p.1 a) k.showing.asks;
   once = λ z. no_more_once t y st h z k.ending;
-  room = λ w n r. omega (arith, room_for t w n h.pushed (subst (λ (z : ActorId). IsRouted t z h.pushed) r k.speaks.routed), tasks_few w h (k.posting w r), no_more_once t y st h (Tasker n) k.ending) }
+  room = λ w n r. omega (arith, room_for t w n h.pushed (subst (λ (z : ActorId). IsRouted t z h.pushed) r k.speaks.routed), tasks_few w h (k.posting w r), no_more_once t y st h (Tasker n) k.ending);
+}
 
 shown_took : (t : Terms) (y : ActorId) (st : Stage) (h : Hand) (x : ActorId) (m : Message) → Kept t y st h → AnswersFitLog t (is_worker y) h.log → Shown t y (h.took ++ (x, m) ∷ []) h.pushed h.log
 shown_took t y st h x m k fit = let s = shown_still t y st h k fit in record { hand = hand_took t y x m h.took h.pushed h.log s.hand k.speaks.told; post = s.post; finish = s.finish; asks = s.asks; once = s.once; room = s.room }
@@ -147,42 +153,45 @@ shown_took t y st h x m k fit = let s = shown_still t y st h k fit in record { h
 -- with the act's message, the last words or NoMore pushed
 shown_sent : (t : Terms) (y : ActorId) (h : Hand) (e : Event) (act : Act) (to : ActorId) (m : Message) (a : Answer) → IsHand t y → IsPresent t to → Kept t y (Sending e act to m a) h → AnswersFitLog t (is_worker y) h.log → Shown t y h.took (h.pushed ++ (to, m) ∷ []) h.log
 shown_sent t y h e act to m a hand there k fit =
-  let law = hand_sent t y h e act to m a hand there k.speaks fit in
-  let ends : (z : ActorId) → length (collect no_more (of z (h.pushed ++ (to, m) ∷ []))) ≤ 1 = λ z. once_of t z (k.ending.work ++ (to, m) ∷ []) (h.pushed ++ (to, m) ∷ []) 0 (push_work h.pushed k.ending.work to m k.ending.split) (each_append (λ (p : ActorId × Message). no_more p.1 ≡ []) k.ending.work ((to, m) ∷ []) k.ending.quiet (carried_not t y h.next e act to m a k.speaks.carries, tt)) in
-  record {
-    hand = law;
-    post = λ w r. post_law_sent t w h e act to m a k.speaks.last (subst (λ (z : ActorId). Carried t z h.next e act to m a) r k.speaks.carries) (k.posting w r);
-    finish = finish_law_sent t y h e act to m a k.speaks.last k.speaks.carries k.making;
-    asks = each_append (λ (p : ActorId × Message). AskLaw h.log p.1) h.pushed ((to, m) ∷ []) (shown_still t y (Sending e act to m a) h k fit).asks (ask_carried t y h.log h.next e act to m a k.speaks.last k.speaks.carries, tt);
-    once = ends;
-    room = λ w n r. omega (arith, room_for t w n (h.pushed ++ (to, m) ∷ []) (subst (λ (z : ActorId). IsRouted t z (h.pushed ++ (to, m) ∷ [])) r law.routed), tasks_few_sent t w h e act to m a k.speaks.last (subst (λ (z : ActorId). Carried t z h.next e act to m a) r k.speaks.carries) (k.posting w r), ends (Tasker n)) }
+    let law = hand_sent t y h e act to m a hand there k.speaks fit in
+    let ends : (z : ActorId) → length (collect no_more (of z (h.pushed ++ (to, m) ∷ []))) ≤ 1 = λ z. once_of t z (k.ending.work ++ (to, m) ∷ []) (h.pushed ++ (to, m) ∷ []) 0 (push_work h.pushed k.ending.work to m k.ending.split) (each_append (λ (p : ActorId × Message). no_more p.1 ≡ []) k.ending.work ((to, m) ∷ []) k.ending.quiet (carried_not t y h.next e act to m a k.speaks.carries, tt)) in
+    record {
+      hand = law;
+      post = λ w r. post_law_sent t w h e act to m a k.speaks.last (subst (λ (z : ActorId). Carried t z h.next e act to m a) r k.speaks.carries) (k.posting w r);
+      finish = finish_law_sent t y h e act to m a k.speaks.last k.speaks.carries k.making;
+      asks = each_append (λ (p : ActorId × Message). AskLaw h.log p.1) h.pushed ((to, m) ∷ []) (shown_still t y (Sending e act to m a) h k fit).asks (ask_carried t y h.log h.next e act to m a k.speaks.last k.speaks.carries, tt);
+      once = ends;
+      room = λ w n r. omega (arith, room_for t w n (h.pushed ++ (to, m) ∷ []) (subst (λ (z : ActorId). IsRouted t z (h.pushed ++ (to, m) ∷ [])) r law.routed), tasks_few_sent t w h e act to m a k.speaks.last (subst (λ (z : ActorId). Carried t z h.next e act to m a) r k.speaks.carries) (k.posting w r), ends (Tasker n));
+    }
 
 words_plain : (t : Terms) (y : ActorId) (log : Log) (w : ℕ) (e : Event) (to : ActorId) (m : Message) → last_words t y e ≡ (to, m) ∷ [] → (task_in w m ≡ []) × ((no_more m ≡ []) × AskLaw log m)
 words_plain t y log w e to m q = words_are (λ (p : ActorId × Message). (task_in w p.1 ≡ []) × ((no_more p.1 ≡ []) × AskLaw log p.1)) (λ n s. (refl, (refl, tt))) (λ v id. (refl, (refl, tt))) t y e to m q
 
 shown_left : (t : Terms) (y : ActorId) (h : Hand) (e : Event) (to : ActorId) (m : Message) → IsHand t y → IsPresent t to → Kept t y (Leaving e to m) h → AnswersFitLog t (is_worker y) h.log → Shown t y h.took (h.pushed ++ (to, m) ∷ []) h.log
 shown_left t y h e to m hand there k fit =
-  let law : HandLaw t y h.took (h.pushed ++ (to, m) ∷ []) h.log = hand_still t y Idle (left_event t h e to m) (speaks_left t y h e to m hand there k.speaks) fit in
-  let ends : (z : ActorId) → length (collect no_more (of z (h.pushed ++ (to, m) ∷ []))) ≤ 1 = λ z. no_more_once t y Idle (left_event t h e to m) z (ending_left t y h e to m (words_plain t y h.log 0 e to m k.speaks.carries).1.0 k.ending) in
-  record {
-    hand = law;
-    post = λ w r. post_law_quiet w h to m (words_plain t y h.log w e to m k.speaks.carries).0 (k.posting w r);
-    finish = finish_law Idle (left_event t h e to m) (making_left t y h e to m k.speaks.mine.0 k.speaks.carries k.making);
-    asks = each_append (λ (p : ActorId × Message). AskLaw h.log p.1) h.pushed ((to, m) ∷ []) (shown_still t y (Leaving e to m) h k fit).asks ((words_plain t y h.log 0 e to m k.speaks.carries).1.1, tt);
-    once = ends;
-    room = λ w n r. omega (arith, room_for t w n (h.pushed ++ (to, m) ∷ []) (subst (λ (z : ActorId). IsRouted t z (h.pushed ++ (to, m) ∷ [])) r law.routed), tasks_few_quiet w h to m (words_plain t y h.log w e to m k.speaks.carries).0 (k.posting w r), ends (Tasker n)) }
+    let law : HandLaw t y h.took (h.pushed ++ (to, m) ∷ []) h.log = hand_still t y Idle (left_event t h e to m) (speaks_left t y h e to m hand there k.speaks) fit in
+    let ends : (z : ActorId) → length (collect no_more (of z (h.pushed ++ (to, m) ∷ []))) ≤ 1 = λ z. no_more_once t y Idle (left_event t h e to m) z (ending_left t y h e to m (words_plain t y h.log 0 e to m k.speaks.carries).1.0 k.ending) in
+    record {
+      hand = law;
+      post = λ w r. post_law_quiet w h to m (words_plain t y h.log w e to m k.speaks.carries).0 (k.posting w r);
+      finish = finish_law Idle (left_event t h e to m) (making_left t y h e to m k.speaks.mine.0 k.speaks.carries k.making);
+      asks = each_append (λ (p : ActorId × Message). AskLaw h.log p.1) h.pushed ((to, m) ∷ []) (shown_still t y (Leaving e to m) h k fit).asks ((words_plain t y h.log 0 e to m k.speaks.carries).1.1, tt);
+      once = ends;
+      room = λ w n r. omega (arith, room_for t w n (h.pushed ++ (to, m) ∷ []) (subst (λ (z : ActorId). IsRouted t z (h.pushed ++ (to, m) ∷ [])) r law.routed), tasks_few_quiet w h to m (words_plain t y h.log w e to m k.speaks.carries).0 (k.posting w r), ends (Tasker n));
+    }
 
 shown_ended : (t : Terms) (y : ActorId) (h : Hand) (j : ℕ) → IsHand t y → IsPresent t (goodbye t j) → Kept t y (Stopping j) h → AnswersFitLog t (is_worker y) h.log → Shown t y h.took (h.pushed ++ (goodbye t j, NoMore) ∷ []) h.log
 shown_ended t y h j hand there k fit =
-  let law : HandLaw t y h.took (h.pushed ++ (goodbye t j, NoMore) ∷ []) h.log = hand_still t y Idle (settle h (goodbye t j) NoMore) (speaks_ended t y h j hand there k.speaks) fit in
-  let ends : (z : ActorId) → length (collect no_more (of z (h.pushed ++ (goodbye t j, NoMore) ∷ []))) ≤ 1 = λ z. once_of t z k.ending.work (h.pushed ++ (goodbye t j, NoMore) ∷ []) (suc j) (next_split t h.pushed k.ending.work j k.ending.split) k.ending.quiet in
-  record {
-    hand = law;
-    post = λ w r. post_law_quiet w h (goodbye t j) NoMore refl (k.posting w r);
-    finish = finish_law (Stopping j) (settle h (goodbye t j) NoMore) (making_ended (Stopping j) t h j k.making);
-    asks = each_append (λ (p : ActorId × Message). AskLaw h.log p.1) h.pushed ((goodbye t j, NoMore) ∷ []) (shown_still t y (Stopping j) h k fit).asks (tt, tt);
-    once = ends;
-    room = λ w n r. omega (arith, room_for t w n (h.pushed ++ (goodbye t j, NoMore) ∷ []) (subst (λ (z : ActorId). IsRouted t z (h.pushed ++ (goodbye t j, NoMore) ∷ [])) r law.routed), tasks_few_quiet w h (goodbye t j) NoMore refl (k.posting w r), ends (Tasker n)) }
+    let law : HandLaw t y h.took (h.pushed ++ (goodbye t j, NoMore) ∷ []) h.log = hand_still t y Idle (settle h (goodbye t j) NoMore) (speaks_ended t y h j hand there k.speaks) fit in
+    let ends : (z : ActorId) → length (collect no_more (of z (h.pushed ++ (goodbye t j, NoMore) ∷ []))) ≤ 1 = λ z. once_of t z k.ending.work (h.pushed ++ (goodbye t j, NoMore) ∷ []) (suc j) (next_split t h.pushed k.ending.work j k.ending.split) k.ending.quiet in
+    record {
+      hand = law;
+      post = λ w r. post_law_quiet w h (goodbye t j) NoMore refl (k.posting w r);
+      finish = finish_law (Stopping j) (settle h (goodbye t j) NoMore) (making_ended (Stopping j) t h j k.making);
+      asks = each_append (λ (p : ActorId × Message). AskLaw h.log p.1) h.pushed ((goodbye t j, NoMore) ∷ []) (shown_still t y (Stopping j) h k fit).asks (tt, tt);
+      once = ends;
+      room = λ w n r. omega (arith, room_for t w n (h.pushed ++ (goodbye t j, NoMore) ∷ []) (subst (λ (z : ActorId). IsRouted t z (h.pushed ++ (goodbye t j, NoMore) ∷ [])) r law.routed), tasks_few_quiet w h (goodbye t j) NoMore refl (k.posting w r), ends (Tasker n));
+    }
 
 -- every moment
 pub shows : (t : Terms) (y : ActorId) (st : Stage) (h : Hand) (got : Got) → IsHand t y → GotFits t st got → Kept t y st h → AnswersFitLog t (is_worker y) h.log → Shown t y (taken got h.took) (sent t st got h.pushed) h.log
@@ -219,4 +228,5 @@ finished t y h k = record {
   tasker_all = λ j r. (let s : Ending t (Tasker j) Stopped h = subst (λ (z : ActorId). Ending t z Stopped h) r k.ending in omega (arith, s.stops.0, s.counted));
   gave = λ w. k.making.gave w ∙ sym (made_settled w h.log ∙ ap (λ (x : Act). given_after w [] Done h.log ++ give_of (now_after w [] h.log) x) k.speaks.last ∙ append-nil (given_after w [] Done h.log));
   overs_pushed = λ w. omega (arith, k.making.overs w);
-  tasker_last = λ w. marked_now (of (Worker w) h.pushed) [] refl (k.making.last w) }
+  tasker_last = λ w. marked_now (of (Worker w) h.pushed) [] refl (k.making.last w);
+}

@@ -11,7 +11,6 @@ use Rattle.sw_column.specs.Fit.{call_fault}
 use Rattle.sw_port_book.specs.declared.answers.Look.{Look}
 use Rattle.sw_port_book.specs.declared.answers.Look.TheVariants.{Live, Other}
 use Rattle.sw_port_book.specs.declared.answers.BindFault.{BindFault}
-use Rattle.sw_port_book.specs.declared.answers.BindFault.TheVariants as fault
 use Rattle.sw_port_shelf.specs.Shelf.{AnswersFit, is_of_place}
 use Rattle.sw_port_shelf.specs.declared.shelf.Placed.{Placed}
 use Rattle.sw_record.specs.Words.{Event, Connect, Packet, Closed, Finish, Task, Act, Send, Close, Reset, Bind, Exist, Info, TaskAct, FinishAct, Table, Stats, Shutdown, Done, Answer, Sent, Asked, BindOk, Exists, InfoIs, Posted, Finished, TableIs, TableRefused, Count, NoSession, Bound, BadUid, WrongMode, BadTarget, NoTaskWorkers, IdsSpent, NotHere, NoTable, AnswerGiven, Any, At, Call, CallFault, Dst}
@@ -26,56 +25,59 @@ use Rattle.sw_past.specs.Routes.{is_worker}
 use Rattle.sw_hand_laws.specs.Hand.{Got, Start, Took, Empty, Pushed, Full, Nothing, Ports, Stage, Idle, Acting, Sending, Leaving, Stopping, Stopped, Hand, Turned, last_words, goodbye, goodbyes, skip, settle, reach_seen, reach, exist_seen, exist, info_seen, info, bind_seen, bind, tasker_at, is_there, post_fit, post_to, post_some, post, finish, call_seen, call, done, make, full, sending, leaving, stop_if, stopping, go_if, may_stop, took_event, took_turn, idle_turn, turn, call_refused, go_on}
 use Rattle.sw_hand_laws.specs.Keeps.{Carried, CSend, CClose, CReset, CPost, CGive}
 use Rattle.sw_hand_laws.specs.Kept.{PushFits, GotFits}
-use Rattle.sw_hand_laws.specs.Moved.{Moved, Waits, Answers, Aims, Sends, Fulls, Hears, Skips, Overs, Leaves, Lefts, Stops, Nones, SkipStops, SkipNones, Nexts, Lasts, Sums, PortsFit, BindFits, AimFits, IdleFits}
+use Rattle.sw_hand_laws.specs.Moved.{Moved, Waits, Answers, Aims, Sends, Fulls, Hears, Skips, Overs, Leaves, Lefts, Stops, Nones, SkipStops, SkipNones, Nexts, Lasts, PortsFit, BindFits, AimFits, IdleFits}
 use Rattle.sw_hand_laws.proofs.Ends.{one_word, for_one}
 use Rattle.sw_hand_laws.proofs.Faults.{OfArguments, call_faults}
+use Rattle.sw_port_book.specs.declared.answers.BindFault.TheVariants as fault
 
 abbrev Goes : Terms → ActorId → ℕ → Stage → Hand → Turned → Type 0
 Goes t y c st h r = Moved t y c st h r.stage r.hand
 
-goes_reach : (t : Terms) (y : ActorId) (c : ℕ) (h : Hand) (e : Event) (act : Act) (s : ℕ) (m : Message) (a : Answer) (p : Ports) (v : Bool) → Carried t y h.next e act (Reactor (reactor_of t s)) m a → Fits t (is_worker y) h.own h.next e act a → ((n : ℕ) → MayFollow act (AnswerGiven (NoSession n))) → ((n : ℕ) → v ≡ false → Fits t (is_worker y) h.own h.next e act (NoSession n)) → ((n : ℕ) → Sums h.words act (NoSession n)) → AimFits t act (Reactor (reactor_of t s)) → Goes t y c (Acting e act) h (reach t h e act s m a p v)
-goes_reach t y c h e act s m a p true k f may refuse sums aim = Aims h e act h.seen (Reactor (reactor_of t s)) m a k f aim
-goes_reach t y c h e act s m a p false k f may refuse sums aim = looked p.look
+goes_reach : (t : Terms) (y : ActorId) (c : ℕ) (h : Hand) (e : Event) (act : Act) (s : ℕ) (m : Message) (a : Answer) (p : Ports) (v : Bool) → Carried t y h.next e act (Reactor (reactor_of t s)) m a → Fits t (is_worker y) h.own h.next e act a → ((n : ℕ) → MayFollow act (AnswerGiven (NoSession n))) → ((n : ℕ) → v ≡ false → Fits t (is_worker y) h.own h.next e act (NoSession n)) → AimFits t act (Reactor (reactor_of t s)) → Goes t y c (Acting e act) h (reach t h e act s m a p v)
+goes_reach t y c h e act s m a p true k f may refuse aim = Aims h e act h.seen (Reactor (reactor_of t s)) m a k f aim
+goes_reach t y c h e act s m a p false k f may refuse aim = looked p.look
   where
     looked : (l : Look) → Goes t y c (Acting e act) h (reach_seen t h e act s m a p.act l)
     looked (Live u) = Aims h e act (record h.seen { lives = h.seen.lives ++ s ∷ [] }) (Reactor (reactor_of t s)) m a k f aim
-    looked (Other n) = Answers h e act (record h.seen { others = h.seen.others ++ (s, n) ∷ [] }) (NoSession n) p.act (may n) refl (refuse n refl) (sums n)
+    looked (Other n) = Answers h e act (record h.seen { others = h.seen.others ++ (s, n) ∷ [] }) (NoSession n) p.act (may n) refl (refuse n refl)
 
 goes_exist : (t : Terms) (y : ActorId) (c : ℕ) (h : Hand) (e : Event) (s : ℕ) (p : Ports) (v : Bool) → is_own t h.own e s ≡ v → Goes t y c (Acting e (Exist s)) h (exist h e s p v)
-goes_exist t y c h e s p true o = Answers h e (Exist s) (h.seen) Exists p.act tt refl tt tt
+goes_exist t y c h e s p true o = Answers h e (Exist s) (h.seen) Exists p.act tt refl tt
 goes_exist t y c h e s p false o = looked p.look
   where
     looked : (l : Look) → Goes t y c (Acting e (Exist s)) h (exist_seen h e s p.act l)
-    looked (Live u) = Answers h e (Exist s) (record h.seen { lives = h.seen.lives ++ s ∷ [] }) Exists p.act tt refl tt tt
-    looked (Other n) = Answers h e (Exist s) (record h.seen { others = h.seen.others ++ (s, n) ∷ [] }) (NoSession n) p.act tt refl o tt
+    looked (Live u) = Answers h e (Exist s) (record h.seen { lives = h.seen.lives ++ s ∷ [] }) Exists p.act tt refl tt
+    looked (Other n) = Answers h e (Exist s) (record h.seen { others = h.seen.others ++ (s, n) ∷ [] }) (NoSession n) p.act tt refl o
 
 apart : (m n : ℕ) → (m == n) ≡ false → ¬ (m ≡ n)
 apart m n q e = absurd (let r : (m == n) ≡ true = eq_same m n e in cc)
 
 goes_info : (t : Terms) (y : ActorId) (c : ℕ) (h : Hand) (e : Event) (s : ℕ) (p : Ports) (v : Bool) → (if t.mode == 5 then false else is_own t h.own e s) ≡ v → Goes t y c (Acting e (Info s)) h (info t h e s p v)
-goes_info t y c h e s p true o = Answers h e (Info s) (h.seen) (InfoIs (s % t.max_conn) 0) p.act tt refl (refl, (λ i j. refl)) tt
+goes_info t y c h e s p true o = Answers h e (Info s) (h.seen) (InfoIs (s % t.max_conn) 0) p.act tt refl (refl, (λ i j. refl))
 goes_info t y c h e s p false o = looked p.look
   where
     not_own : (v w : Bool) → v ≡ false → w ≡ true → (if v then false else w) ≡ false → ⊥
     not_own true w i j r = absurd (cc)
     not_own false true i j r = absurd (cc)
     not_own false false i j r = absurd (cc)
+
     other : (v w : Bool) → (t.mode == 5) ≡ v → (if v then false else w) ≡ false → (t.mode ≡ 5) ⊎ (w ≡ false)
     other true w i r = inl (eq_is t.mode 5 i)
     other false w i r = inr r
+
     looked : (l : Look) → Goes t y c (Acting e (Info s)) h (info_seen t h e s p.act l)
-    looked (Live u) = Answers h e (Info s) (record h.seen { lives = h.seen.lives ++ s ∷ []; infos = h.seen.infos ++ (s, u) ∷ [] }) (InfoIs (s % t.max_conn) u) p.act tt refl (refl, (λ i j. absurd (not_own (t.mode == 5) (is_own t h.own e s) (eq_other t.mode 5 i) j o))) tt
-    looked (Other n) = Answers h e (Info s) (record h.seen { others = h.seen.others ++ (s, n) ∷ [] }) (NoSession n) p.act tt refl (other (t.mode == 5) (is_own t h.own e s) refl o) tt
+    looked (Live u) = Answers h e (Info s) (record h.seen { lives = h.seen.lives ++ s ∷ []; infos = h.seen.infos ++ (s, u) ∷ [] }) (InfoIs (s % t.max_conn) u) p.act tt refl (refl, (λ i j. absurd (not_own (t.mode == 5) (is_own t h.own e s) (eq_other t.mode 5 i) j o)))
+    looked (Other n) = Answers h e (Info s) (record h.seen { others = h.seen.others ++ (s, n) ∷ [] }) (NoSession n) p.act tt refl (other (t.mode == 5) (is_own t h.own e s) refl o)
 
 goes_bind : (t : Terms) (y : ActorId) (c : ℕ) (h : Hand) (e : Event) (s u : ℕ) (p : Ports) (v : Bool) → (t.mode == 5) ≡ v → BindFits u p.binding → Goes t y c (Acting e (Bind s u)) h (bind h e s u p v)
 goes_bind t y c h e s u p true q f = found p.binding f
   where
     found : (b : Result (Unit {0}) BindFault) → BindFits u b → Goes t y c (Acting e (Bind s u)) h (bind_seen h e s u p.act b)
-    found (Ok v) g = Answers h e (Bind s u) (record h.seen { lives = h.seen.lives ++ s ∷ []; passes = h.seen.passes ++ (s, u) ∷ [] }) BindOk p.act tt refl (eq_is t.mode 5 q, g) tt
-    found (Err fault.BadUid) g = Answers h e (Bind s u) (h.seen) BadUid p.act tt refl (eq_is t.mode 5 q, g) tt
-    found (Err (fault.Other n)) g = Answers h e (Bind s u) (record h.seen { others = h.seen.others ++ (s, n) ∷ [] }) (NoSession n) p.act tt refl (eq_is t.mode 5 q, g) tt
-    found (Err (fault.Bound v)) g = Answers h e (Bind s u) (record h.seen { lives = h.seen.lives ++ s ∷ []; bounds = h.seen.bounds ++ (s, v) ∷ [] }) (Bound v) p.act tt refl (eq_is t.mode 5 q, g) tt
-goes_bind t y c h e s u p false q f = Answers h e (Bind s u) (h.seen) WrongMode p.act tt refl (apart t.mode 5 q) tt
+    found (Ok v) g = Answers h e (Bind s u) (record h.seen { lives = h.seen.lives ++ s ∷ []; passes = h.seen.passes ++ (s, u) ∷ [] }) BindOk p.act tt refl (eq_is t.mode 5 q, g)
+    found (Err fault.BadUid) g = Answers h e (Bind s u) (h.seen) BadUid p.act tt refl (eq_is t.mode 5 q, g)
+    found (Err (fault.Other n)) g = Answers h e (Bind s u) (record h.seen { others = h.seen.others ++ (s, n) ∷ [] }) (NoSession n) p.act tt refl (eq_is t.mode 5 q, g)
+    found (Err (fault.Bound v)) g = Answers h e (Bind s u) (record h.seen { lives = h.seen.lives ++ s ∷ []; bounds = h.seen.bounds ++ (s, v) ∷ [] }) (Bound v) p.act tt refl (eq_is t.mode 5 q, g)
+goes_bind t y c h e s u p false q f = Answers h e (Bind s u) (h.seen) WrongMode p.act tt refl (apart t.mode 5 q)
 
 fits_place : (t : Terms) (next : ℕ) (d : Dst) (idle : Option ℕ) → FitsDst d (Tasker (tasker_at t next d idle))
 fits_place t next (At k) idle = refl
@@ -96,29 +98,29 @@ tasker_there t next Any (Some k) n i f = f
 tasker_there t next Any None n i f = mod_below next t.tasker_num (omega (arith, n))
 
 goes_fit : (t : Terms) (w : ℕ) (c : ℕ) (h : Hand) (e : Event) (d : Dst) (b : List ℕ) (p : Ports) (v : Bool) → ¬ (t.tasker_num ≡ 0) → IsThere t d → IdleFits t p.idle → (h.next == 2 ^ 64 - 1) ≡ v → Goes t (Worker w) c (Acting e (TaskAct d b)) h (post_fit t w h e d b p v)
-goes_fit t w c h e d b p true n i f q = Answers h e (TaskAct d b) (h.seen) IdsSpent p.act tt refl (refl, n, i, eq_is h.next (2 ^ 64 - 1) q) tt
+goes_fit t w c h e d b p true n i f q = Answers h e (TaskAct d b) (h.seen) IdsSpent p.act tt refl (refl, n, i, eq_is h.next (2 ^ 64 - 1) q)
 goes_fit t w c h e d b p false n i f q = Aims h e (TaskAct d b) h.seen (Tasker (tasker_at t h.next d p.idle)) (EventMsg (Task w h.next b)) (Posted h.next) (CPost w (tasker_at t h.next d p.idle) d b refl (fits_place t h.next d p.idle) (apart h.next (2 ^ 64 - 1) q)) (record { here = refl; some = n; there = i; unspent = apart h.next (2 ^ 64 - 1) q }, refl) (tasker_there t h.next d p.idle n i f)
 
 goes_to : (t : Terms) (w : ℕ) (c : ℕ) (h : Hand) (e : Event) (d : Dst) (b : List ℕ) (p : Ports) (v : Bool) → ¬ (t.tasker_num ≡ 0) → IdleFits t p.idle → is_there t d ≡ v → Goes t (Worker w) c (Acting e (TaskAct d b)) h (post_to t w h e d b p v)
 goes_to t w c h e d b p true n f i = goes_fit t w c h e d b p (h.next == 2 ^ 64 - 1) n (there_is t d i) f refl
-goes_to t w c h e d b p false n f i = Answers h e (TaskAct d b) (h.seen) BadTarget p.act tt refl (refl, n, there_not t d i) tt
+goes_to t w c h e d b p false n f i = Answers h e (TaskAct d b) (h.seen) BadTarget p.act tt refl (refl, n, there_not t d i)
 
 goes_some : (t : Terms) (w : ℕ) (c : ℕ) (h : Hand) (e : Event) (d : Dst) (b : List ℕ) (p : Ports) (v : Bool) → IdleFits t p.idle → (t.tasker_num == 0) ≡ v → Goes t (Worker w) c (Acting e (TaskAct d b)) h (post_some t w h e d b p v)
-goes_some t w c h e d b p true f n = Answers h e (TaskAct d b) (h.seen) NoTaskWorkers p.act tt refl (refl, eq_is t.tasker_num 0 n) tt
+goes_some t w c h e d b p true f n = Answers h e (TaskAct d b) (h.seen) NoTaskWorkers p.act tt refl (refl, eq_is t.tasker_num 0 n)
 goes_some t w c h e d b p false f n = goes_to t w c h e d b p (is_there t d) (apart t.tasker_num 0 n) f refl
 
 goes_post : (t : Terms) (y : ActorId) (c : ℕ) (h : Hand) (e : Event) (d : Dst) (b : List ℕ) (p : Ports) → IdleFits t p.idle → Goes t y c (Acting e (TaskAct d b)) h (post t y h e d b p)
 goes_post t (Worker w) c h e d b p f = goes_some t w c h e d b p (t.tasker_num == 0) f refl
-goes_post t Door c h e d b p f = Answers h e (TaskAct d b) (h.seen) NotHere p.act tt refl refl tt
-goes_post t (Reactor n) c h e d b p f = Answers h e (TaskAct d b) (h.seen) NotHere p.act tt refl refl tt
-goes_post t (Tasker n) c h e d b p f = Answers h e (TaskAct d b) (h.seen) NotHere p.act tt refl refl tt
+goes_post t Door c h e d b p f = Answers h e (TaskAct d b) (h.seen) NotHere p.act tt refl refl
+goes_post t (Reactor n) c h e d b p f = Answers h e (TaskAct d b) (h.seen) NotHere p.act tt refl refl
+goes_post t (Tasker n) c h e d b p f = Answers h e (TaskAct d b) (h.seen) NotHere p.act tt refl refl
 
 goes_finish : (t : Terms) (y : ActorId) (c : ℕ) (h : Hand) (e : Event) (b : List ℕ) (p : Ports) → Goes t y c (Acting e (FinishAct b)) h (finish h e b p)
 goes_finish t y c h (Task w id x) b p = Aims h (Task w id x) (FinishAct b) h.seen (Worker w) (EventMsg (Finish id b)) Finished (CGive w id x b refl) refl tt
-goes_finish t y c h (Connect s) b p = Answers h (Connect s) (FinishAct b) (h.seen) NotHere p.act tt refl refl tt
-goes_finish t y c h (Packet s i x) b p = Answers h (Packet s i x) (FinishAct b) (h.seen) NotHere p.act tt refl refl tt
-goes_finish t y c h (Closed s) b p = Answers h (Closed s) (FinishAct b) (h.seen) NotHere p.act tt refl refl tt
-goes_finish t y c h (Finish id x) b p = Answers h (Finish id x) (FinishAct b) (h.seen) NotHere p.act tt refl refl tt
+goes_finish t y c h (Connect s) b p = Answers h (Connect s) (FinishAct b) (h.seen) NotHere p.act tt refl refl
+goes_finish t y c h (Packet s i x) b p = Answers h (Packet s i x) (FinishAct b) (h.seen) NotHere p.act tt refl refl
+goes_finish t y c h (Closed s) b p = Answers h (Closed s) (FinishAct b) (h.seen) NotHere p.act tt refl refl
+goes_finish t y c h (Finish id x) b p = Answers h (Finish id x) (FinishAct b) (h.seen) NotHere p.act tt refl refl
 
 -- what the Table answers by whether the call fits
 placed_fits : (o : Option CallFault) (q : Placed) → AnswersFit o (Ok q) → o ≡ None
@@ -134,21 +136,23 @@ place_fault None f a q g = refl
 place_fault (Some x) f a q g = absurd (let same : f ≡ x = cc in let r : is_of_place f ≡ false = ap is_of_place same ∙ a in cc)
 
 goes_call : (t : Terms) (y : ActorId) (c : ℕ) (h : Hand) (e : Event) (n : Call) (p : Ports) (cs : List Column) → t.columns ≡ cs → AnswersFit (call_fault t.columns n) p.called → Goes t y c (Acting e (Table n)) h (call h e n p cs)
-goes_call t y c h e n p [] q f = Answers h e (Table n) (h.seen) NoTable p.act tt refl q tt
+goes_call t y c h e n p [] q f = Answers h e (Table n) (h.seen) NoTable p.act tt refl q
 goes_call t y c h e n p (x ∷ xs) q f = called p.called f
   where
     some : t.columns ≡ x ∷ xs → ¬ (t.columns ≡ [])
     some r z = absurd (cc)
+
     refused : (b : CallFault) → AnswersFit (call_fault t.columns n) (Err b) → Goes t y c (Acting e (Table n)) h (call_refused h e n p.act b)
     refused (Busy word seen) g = Waits (Acting e (Table n)) h
-    refused (Spent k) g = Answers h e (Table n) (record h.seen { spents = h.seen.spents ++ k ∷ [] }) (TableRefused (Spent k)) p.act tt refl (some q, place_fault (call_fault t.columns n) (Spent k) (call_faults t.columns n) refl g) tt
-    refused BadKey g = Answers h e (Table n) (h.seen) (TableRefused BadKey) p.act tt refl (some q, argument_fault (call_fault t.columns n) BadKey refl g) tt
-    refused NoColumn g = Answers h e (Table n) (h.seen) (TableRefused NoColumn) p.act tt refl (some q, argument_fault (call_fault t.columns n) NoColumn refl g) tt
-    refused NotInt g = Answers h e (Table n) (h.seen) (TableRefused NotInt) p.act tt refl (some q, argument_fault (call_fault t.columns n) NotInt refl g) tt
-    refused BadValue g = Answers h e (Table n) (h.seen) (TableRefused BadValue) p.act tt refl (some q, argument_fault (call_fault t.columns n) BadValue refl g) tt
-    refused Range g = Answers h e (Table n) (h.seen) (TableRefused Range) p.act tt refl (some q, argument_fault (call_fault t.columns n) Range refl g) tt
+    refused (Spent k) g = Answers h e (Table n) (record h.seen { spents = h.seen.spents ++ k ∷ [] }) (TableRefused (Spent k)) p.act tt refl (some q, place_fault (call_fault t.columns n) (Spent k) (call_faults t.columns n) refl g)
+    refused BadKey g = Answers h e (Table n) (h.seen) (TableRefused BadKey) p.act tt refl (some q, argument_fault (call_fault t.columns n) BadKey refl g)
+    refused NoColumn g = Answers h e (Table n) (h.seen) (TableRefused NoColumn) p.act tt refl (some q, argument_fault (call_fault t.columns n) NoColumn refl g)
+    refused NotInt g = Answers h e (Table n) (h.seen) (TableRefused NotInt) p.act tt refl (some q, argument_fault (call_fault t.columns n) NotInt refl g)
+    refused BadValue g = Answers h e (Table n) (h.seen) (TableRefused BadValue) p.act tt refl (some q, argument_fault (call_fault t.columns n) BadValue refl g)
+    refused Range g = Answers h e (Table n) (h.seen) (TableRefused Range) p.act tt refl (some q, argument_fault (call_fault t.columns n) Range refl g)
+
     called : (r : Result Placed CallFault) → AnswersFit (call_fault t.columns n) r → Goes t y c (Acting e (Table n)) h (call_seen h e n p.cells p.act r)
-    called (Ok k) g = Answers h e (Table n) (record h.seen { seat = h.seen.seat ++ (k.at, (n, (k.reply, p.cells))) ∷ [] }) (TableIs k.at k.reply p.cells) p.act tt refl (some q, placed_fits (call_fault t.columns n) k g) tt
+    called (Ok k) g = Answers h e (Table n) (record h.seen { seat = h.seen.seat ++ (k.at, (n, (k.reply, p.cells))) ∷ [] }) (TableIs k.at k.reply p.cells) p.act tt refl (some q, placed_fits (call_fault t.columns n) k g)
     called (Err b) g = refused b g
 
 goes_done : (t : Terms) (y : ActorId) (c : ℕ) (h : Hand) (e : Event) (ms : List (ActorId × Message)) → last_words t y e ≡ ms → Goes t y c (Acting e Done) h (done h e ms)
@@ -156,17 +160,17 @@ goes_done t y c h e [] q = Overs h e q
 goes_done t y c h e ((to, m) ∷ ms) q = Leaves h e to m (one_word t y e to m ms q)
 
 goes_make : (t : Terms) (y : ActorId) (c : ℕ) (h : Hand) (e : Event) (p : Ports) (act : Act) → PortsFit t (Acting e act) h p → Goes t y c (Acting e act) h (make t y h e p act)
-goes_make t y c h e p (Send s b) f = goes_reach t y c h e (Send s b) s (SendMsg s b) Sent p (is_own t h.own e s) (CSend s b) tt (λ n. tt) (λ n q. q) (λ n. tt) tt
-goes_make t y c h e p (Close s) f = goes_reach t y c h e (Close s) s (CloseMsg s) Asked p (is_own t h.own e s) (CClose s) tt (λ n. tt) (λ n q. q) (λ n. tt) tt
-goes_make t y c h e p (Reset s) f = goes_reach t y c h e (Reset s) s (ResetMsg s) Asked p (is_own t h.own e s) (CReset s) tt (λ n. tt) (λ n q. q) (λ n. tt) tt
+goes_make t y c h e p (Send s b) f = goes_reach t y c h e (Send s b) s (SendMsg s b) Sent p (is_own t h.own e s) (CSend s b) tt (λ n. tt) (λ n q. q) tt
+goes_make t y c h e p (Close s) f = goes_reach t y c h e (Close s) s (CloseMsg s) Asked p (is_own t h.own e s) (CClose s) tt (λ n. tt) (λ n q. q) tt
+goes_make t y c h e p (Reset s) f = goes_reach t y c h e (Reset s) s (ResetMsg s) Asked p (is_own t h.own e s) (CReset s) tt (λ n. tt) (λ n q. q) tt
 goes_make t y c h e p (Bind s u) f = goes_bind t y c h e s u p (t.mode == 5) refl f
 goes_make t y c h e p (Exist s) f = goes_exist t y c h e s p (is_own t h.own e s) refl
 goes_make t y c h e p (Info s) f = goes_info t y c h e s p (if t.mode == 5 then false else is_own t h.own e s) refl
 goes_make t y c h e p (TaskAct d b) f = goes_post t y c h e d b p f
 goes_make t y c h e p (FinishAct b) f = goes_finish t y c h e b p
 goes_make t y c h e p (Table n) f = goes_call t y c h e n p t.columns refl f
-goes_make t y c h e p (Stats n) f = Answers h e (Stats n) (record h.seen { sums = h.seen.sums ++ (n, p.sum) ∷ [] }) (Count p.sum) p.act tt refl tt f
-goes_make t y c h e p Shutdown f = Answers h e Shutdown (record h.seen { stops = h.seen.stops ++ 0 ∷ [] }) Asked p.act tt refl tt tt
+goes_make t y c h e p (Stats n) f = Answers h e (Stats n) (record h.seen { sums = h.seen.sums ++ (n, p.sum) ∷ [] }) (Count p.sum) p.act tt refl tt
+goes_make t y c h e p Shutdown f = Answers h e Shutdown (record h.seen { stops = h.seen.stops ++ 0 ∷ [] }) Asked p.act tt refl tt
 goes_make t y c h e p Done f = goes_done t y c h e (last_words t y e) refl
 
 goes_full : (t : Terms) (y : ActorId) (c : ℕ) (h : Hand) (e : Event) (act : Act) (to : ActorId) (m : Message) (a : Answer) (next : Act) → Goes t y c (Sending e act to m a) h (full h e act to m a next)

@@ -94,7 +94,7 @@ other_bye u s q = rw q refl
 -- all grows
 pub grown_moves : (t : Terms) (y : ActorId) (c : ℕ) (a b : Stage) (f g : Hand) → Moved t y c a f b g → Grown f g
 grown_moves t y c a b f g (Waits st h) = record { log = prefix_refl h.log; took = prefix_refl h.took; pushed = prefix_refl h.pushed }
-grown_moves t y c a b f g (Answers h e act after ans next may q fit sums) = record { log = prefix_front h.log ((AnswerGiven ans, next) ∷ []); took = prefix_refl h.took; pushed = prefix_refl h.pushed }
+grown_moves t y c a b f g (Answers h e act after ans next may q fit) = record { log = prefix_front h.log ((AnswerGiven ans, next) ∷ []); took = prefix_refl h.took; pushed = prefix_refl h.pushed }
 grown_moves t y c a b f g (Aims h e act after to m ans car fit aim) = record { log = prefix_refl h.log; took = prefix_refl h.took; pushed = prefix_refl h.pushed }
 grown_moves t y c a b f g (Sends h e act to m ans next) = record { log = prefix_front h.log ((AnswerGiven ans, next) ∷ []); took = prefix_refl h.took; pushed = prefix_front h.pushed ((to, m) ∷ []) }
 grown_moves t y c a b f g (Fulls h e d s to m ans after next) = record { log = prefix_front h.log ((AnswerGiven TaskFull, next) ∷ []); took = prefix_refl h.took; pushed = prefix_refl h.pushed }
@@ -113,12 +113,13 @@ grown_moves t y c a b f g (Lasts h j) = record { log = prefix_refl h.log; took =
 -- own sessions
 owns_say : (t : Terms) (log : Log) (pushed : Mail) (own : ℕ → Option ℕ) (e : Event) (a : Answer) (next : Act) (st : Stage) (h g : Hand) → h.log ≡ log → g.log ≡ log ++ (AnswerGiven a, next) ∷ [] → g.own ≡ h.own → now st ≡ e ∷ [] → ((s : ℕ) → collect (byes_in s) (bare h.pushed) ≡ [] → collect (byes_in s) (bare g.pushed) ≡ []) → Owns t st h → Owns t (Acting e next) g
 owns_say t log pushed own e a next st h g l m o n b k =
-  let same : (s : ℕ) → told_of s g.log ≡ told_of s h.log = λ s. ap (told_of s) m ∙ told_still s log a next ∙ ap (told_of s) (sym l) in
-  record {
-    current = λ s. subst (λ es. Each (λ x. is_of s x ≡ true → ¬ (told_of s g.log ≡ [])) es) n (subst (λ (ts : List Event). Each (λ x. is_of s x ≡ true → ¬ (ts ≡ [])) (now st)) (sym (same s)) (k.current s));
-    heard = λ s q. b s (k.heard s (sym (same s) ∙ q));
-    spread = λ q i. ap (λ (w : ℕ → Option ℕ). w i) o ∙ k.spread q i;
-    quiet = λ s f i. b s (k.quiet s (subst ConnectFirst (same s) f) (subst (λ (w : ℕ → Option ℕ). is_some s (w (s % t.max_conn)) ≡ true) o i)) }
+    let same : (s : ℕ) → told_of s g.log ≡ told_of s h.log = λ s. ap (told_of s) m ∙ told_still s log a next ∙ ap (told_of s) (sym l) in
+    record {
+      current = λ s. subst (λ es. Each (λ x. is_of s x ≡ true → ¬ (told_of s g.log ≡ [])) es) n (subst (λ (ts : List Event). Each (λ x. is_of s x ≡ true → ¬ (ts ≡ [])) (now st)) (sym (same s)) (k.current s));
+      heard = λ s q. b s (k.heard s (sym (same s) ∙ q));
+      spread = λ q i. ap (λ (w : ℕ → Option ℕ). w i) o ∙ k.spread q i;
+      quiet = λ s f i. b s (k.quiet s (subst ConnectFirst (same s) f) (subst (λ (w : ℕ → Option ℕ). is_some s (w (s % t.max_conn)) ≡ true) o i));
+    }
 
 hear_quiet : (t : Terms) (own : ℕ → Option ℕ) (told : List Event) (e : Event) (s : ℕ) (Q : Type 0) → (is_some s (own (s % t.max_conn)) ≡ true → Q) → (told ≡ [] → Q) → ConnectFirst (told ++ of_session s e) → is_some s (own_with t own e (s % t.max_conn)) ≡ true → Q
 hear_quiet t own told (Connect u) s Q old fresh f o₀ = kept (keeps t.mode) o₀
@@ -126,6 +127,7 @@ hear_quiet t own told (Connect u) s Q old fresh f o₀ = kept (keeps t.mode) o�
     slot : (w : Bool) → is_some s (if w then Some u else own (s % t.max_conn)) ≡ true → Q
     slot true o = fresh (first_only told u (subst (λ v. ConnectFirst (told ++ when v (Connect u))) o f))
     slot false o = old o
+
     kept : (v : Bool) → is_some s ((if v then at_fd own (u % t.max_conn) (Some u) else own) (s % t.max_conn)) ≡ true → Q
     kept true o = slot (s % t.max_conn == u % t.max_conn) o
     kept false o = old o
@@ -146,7 +148,8 @@ owns_hear t c h from e act k = record {
   current = λ s. ((λ o. told_it s h.log e act o), tt);
   heard = λ s q. k.heard s (append_none (told_of s h.log) (of_session s e) (sym (told_more s h.log e act) ∙ q)).0;
   spread = λ q n. spread_hear t h.own e q n (k.spread q n);
-  quiet = λ s f o. (let front : ConnectFirst (told_of s h.log ++ of_session s e) = subst ConnectFirst (told_more s h.log e act) f in hear_quiet t h.own (told_of s h.log) e s (collect (byes_in s) (bare h.pushed) ≡ []) (λ i. k.quiet s (first_front (told_of s h.log) (of_session s e) front) i) (λ q. k.heard s q) front o) }
+  quiet = λ s f o. (let front : ConnectFirst (told_of s h.log ++ of_session s e) = subst ConnectFirst (told_more s h.log e act) f in hear_quiet t h.own (told_of s h.log) e s (collect (byes_in s) (bare h.pushed) ≡ []) (λ i. k.quiet s (first_front (told_of s h.log) (of_session s e) front) i) (λ q. k.heard s q) front o);
+}
 
 -- the last words are pushed
 left_bye : (t : Terms) (h : Hand) (e : Event) (to : ActorId) (m : Message) (s : ℕ) → Lasted t e (to, m) → (is_of s e ≡ true → ⊥) → collect (byes_in s) (bare h.pushed) ≡ [] → collect (byes_in s) (bare (h.pushed ++ (to, m) ∷ [])) ≡ []
@@ -187,18 +190,20 @@ owns_left t h e to m l k = record {
   current = λ s. tt;
   heard = λ s q. left_bye t h e to m s l (λ i. (k.current s).0 i q) (k.heard s q);
   spread = λ q n. spread_left t h.own e n (k.spread q);
-  quiet = λ s f o. left_quiet t h e to m s k.spread l o (k.quiet s f (own_less_is t h.own e s o)) }
+  quiet = λ s f o. left_quiet t h e to m s k.spread l o (k.quiet s f (own_less_is t h.own e s o));
+}
 
 owns_same : (t : Terms) (st other : Stage) (h g : Hand) → g.log ≡ h.log → g.own ≡ h.own → ((s : ℕ) → collect (byes_in s) (bare h.pushed) ≡ [] → collect (byes_in s) (bare g.pushed) ≡ []) → ((s : ℕ) → Each (λ x. is_of s x ≡ true → ¬ (told_of s g.log ≡ [])) (now other)) → Owns t st h → Owns t other g
 owns_same t st other h g l o b n k = record {
   current = n;
   heard = λ s q. b s (k.heard s (ap (told_of s) (sym l) ∙ q));
   spread = λ q i. ap (λ (w : ℕ → Option ℕ). w i) o ∙ k.spread q i;
-  quiet = λ s f i. b s (k.quiet s (subst (λ (x : Log). ConnectFirst (told_of s x)) l f) (subst (λ (w : ℕ → Option ℕ). is_some s (w (s % t.max_conn)) ≡ true) o i)) }
+  quiet = λ s f i. b s (k.quiet s (subst (λ (x : Log). ConnectFirst (told_of s x)) l f) (subst (λ (w : ℕ → Option ℕ). is_some s (w (s % t.max_conn)) ≡ true) o i));
+}
 
 pub owns_moves : (t : Terms) (y : ActorId) (c : ℕ) (a b : Stage) (f g : Hand) → Moved t y c a f b g → Holds t y a f → Owns t a f → Owns t b g
 owns_moves t y c a b f g (Waits st h) held k = k
-owns_moves t y c a b f g (Answers h e act after ans next may q fit sums) held k = owns_say t h.log h.pushed h.own e ans next (Acting e act) h (say (record h { seen = after }) (AnswerGiven ans) next) refl refl refl refl (λ s z. z) k
+owns_moves t y c a b f g (Answers h e act after ans next may q fit) held k = owns_say t h.log h.pushed h.own e ans next (Acting e act) h (say (record h { seen = after }) (AnswerGiven ans) next) refl refl refl refl (λ s z. z) k
 owns_moves t y c a b f g (Aims h e act after to m ans car fit aim) held k = owns_same t (Acting e act) (Sending e act to m ans) h (record h { seen = after }) refl refl (λ s z. z) k.current k
 owns_moves t y c a b f g (Sends h e act to m ans next) held k = owns_say t h.log h.pushed h.own e ans next (Sending e act to m ans) h (answered h to m ans next) refl refl refl refl (λ s z. no_bye s h.pushed to m (carried_bye t y h.next e act to m ans s held.carries) z) k
 owns_moves t y c a b f g (Fulls h e d s to m ans after next) held k = owns_say t h.log h.pushed h.own e TaskFull next (Sending e (TaskAct d s) to m ans) h (say (record h { seen = after }) (AnswerGiven TaskFull) next) refl refl refl refl (λ s z. z) k

@@ -26,13 +26,15 @@ settled_now : (t : Terms) (y : ActorId) (e : Event) (act : Act) (h : Hand) → K
 settled_now t y e act h k = record {
   talk = λ s. ([], append-nil (collect (talk_in s) (of (Reactor (reactor_of t s)) h.pushed)) ∙ k.speaks.talk s);
   tasks = λ w r. omega (arith, (k.posting w r).mail.pushes, (k.posting w r).logged.tasks);
-  finishes = λ j w r. omega (arith, ap length (k.making.gave w)) }
+  finishes = λ j w r. omega (arith, ap length (k.making.gave w));
+}
 
 settled_front : (t : Terms) (y : ActorId) (log : Log) (front pushed : Mail) → IsPrefix front pushed → IsSettled t y log pushed → IsSettled t y log front
 settled_front t y log front pushed p k = record {
   talk = λ s. prefix_trans (collect (talk_in s) (of (Reactor (reactor_of t s)) front)) (collect (talk_in s) (of (Reactor (reactor_of t s)) pushed)) (settled t s log) (prefix_collect (talk_in s) (of (Reactor (reactor_of t s)) front) (of (Reactor (reactor_of t s)) pushed) (prefix_collect (with (Reactor (reactor_of t s))) front pushed p)) (k.talk s);
   tasks = λ w r. omega (arith, k.tasks w r, prefix_length (collect (task_id w) (bare front)) (collect (task_id w) (bare pushed)) (prefix_collect (task_id w) (bare front) (bare pushed) (prefix_collect msg_of front pushed p)));
-  finishes = λ j w r. omega (arith, k.finishes j w r, prefix_length (collect finish_in (of (Worker w) front)) (collect finish_in (of (Worker w) pushed)) (prefix_collect finish_in (of (Worker w) front) (of (Worker w) pushed) (prefix_collect (with (Worker w)) front pushed p))) }
+  finishes = λ j w r. omega (arith, k.finishes j w r, prefix_length (collect finish_in (of (Worker w) front)) (collect finish_in (of (Worker w) pushed)) (prefix_collect finish_in (of (Worker w) front) (of (Worker w) pushed) (prefix_collect (with (Worker w)) front pushed p)));
+}
 
 -- one entry more, and an act to be made
 abbrev pub OneMore : Log → Log → Stage → Type 0
@@ -40,7 +42,7 @@ OneMore log more b = (x : Given × Act) × ((more ≡ log ++ x ∷ []) × ((e : 
 
 pub one_entry : (t : Terms) (y : ActorId) (c : ℕ) (a b : Stage) (f g : Hand) → Moved t y c a f b g → (g.log ≡ f.log) ⊎ OneMore f.log g.log b
 one_entry t y c a b f g (Waits st h) = inl refl
-one_entry t y c a b f g (Answers h e act after ans next may q fit sums) = inr ((AnswerGiven ans, next), (refl, (e, (next, refl))))
+one_entry t y c a b f g (Answers h e act after ans next may q fit) = inr ((AnswerGiven ans, next), (refl, (e, (next, refl))))
 one_entry t y c a b f g (Aims h e act after to m ans car fit aim) = inl refl
 one_entry t y c a b f g (Sends h e act to m ans next) = inr ((AnswerGiven ans, next), (refl, (e, (next, refl))))
 one_entry t y c a b f g (Fulls h e d s to m ans after next) = inr ((AnswerGiven TaskFull, next), (refl, (e, (next, refl))))
@@ -79,9 +81,10 @@ settled_then t y st h front e act q p k = settled_front t y h.log front h.pushed
 
 -- every turn
 pub turn_settles : (t : Terms) (y : ActorId) (c : ℕ) (p : Ports) (st : Stage) (h : Hand) (got : Got) → IsHand t y → PortsFit t st h p → GotFits t st got → Kept t y st h → ((turn t y c p st h got).hand.log ≡ h.log) ⊎ ((x : Given × Act) × (((turn t y c p st h got).hand.log ≡ h.log ++ x ∷ []) × IsSettled t y (turn t y c p st h got).hand.log (sent t st got h.pushed)))
-turn_settles t y c p st h got hand u f k = elim (one_entry t y c st (turn t y c p st h got).stage h (turn t y c p st h got).hand (turn_moves t y c p st h got u f))
-  [ inl q ↦ inl q
-  | inr (x, (q, (e, (act, s)))) ↦ inr (x, (q, settled_then t y (turn t y c p st h got).stage (turn t y c p st h got).hand (sent t st got h.pushed) e act s (sent_front t y c p st h got u f) (turn_keeps t y c p st h got hand f k).kept)) ]
+turn_settles t y c p st h got hand u f k = elim (one_entry t y c st (turn t y c p st h got).stage h (turn t y c p st h got).hand (turn_moves t y c p st h got u f)) [
+  | inl q ↦ inl q
+  | inr (x, (q, (e, (act, s)))) ↦ inr (x, (q, settled_then t y (turn t y c p st h got).stage (turn t y c p st h got).hand (sent t st got h.pushed) e act s (sent_front t y c p st h got u f) (turn_keeps t y c p st h got hand f k).kept))
+]
 
 -- in every state that a hand comes to
 pub settles : (t : Terms) (y : ActorId) (c left : ℕ) (p : Ports) (st : Stage) (h : Hand) (got : Got) → IsHand t y → PortsFit t st h p → Course t y c left st h got → ((turn t y c p st h got).hand.log ≡ h.log) ⊎ ((x : Given × Act) × (((turn t y c p st h got).hand.log ≡ h.log ++ x ∷ []) × IsSettled t y (turn t y c p st h got).hand.log (sent t st got h.pushed)))

@@ -109,14 +109,27 @@ showing_at_once t h e act after a next q n k = record {
   pending = tt;
   owned = λ s o. told_still_not s h.log a next (k.owned s o);
   current = λ s. ((λ o. told_still_not s h.log a next ((k.current s).0 o)), tt);
-  asks = all_ask_more h.log ((AnswerGiven a, next) ∷ []) h.pushed k.asks }
+  asks = all_ask_more h.log ((AnswerGiven a, next) ∷ []) h.pushed k.asks;
+}
 
 pub showing_asked : (t : Terms) (h : Hand) (e : Event) (act : Act) (lives : List ℕ) (to : ActorId) (m : Message) (a : Answer) → IsPrefix h.seen.lives lives → Each (Granted h.log (record h.seen { lives = lives })) (granted (act, a)) → Showing t (Acting e act) h → Showing t (Sending e act to m a) (record h { seen = record h.seen { lives = lives } })
 showing_asked t h e act lives to m a p g k = record {
-  passes = k.passes; bounds = k.bounds; others = k.others; seat = k.seat; sums = k.sums; fulls = k.fulls; stops = k.stops; busy = k.busy; spents = k.spents; finds = k.finds;
+  passes = k.passes;
+  bounds = k.bounds;
+  others = k.others;
+  seat = k.seat;
+  sums = k.sums;
+  fulls = k.fulls;
+  stops = k.stops;
+  busy = k.busy;
+  spents = k.spents;
+  finds = k.finds;
   grants = each_more (Granted h.log h.seen) (Granted h.log (record h.seen { lives = lives })) (collect granted (answers_of h.log)) (λ s x. grant_more h.log h.seen (record h.seen { lives = lives }) s p x) k.grants;
   pending = each_append (Granted h.log (record h.seen { lives = lives })) (granted (act, a)) [] g tt;
-  owned = k.owned; current = k.current; asks = k.asks }
+  owned = k.owned;
+  current = k.current;
+  asks = k.asks;
+}
 
 -- the act's message is pushed
 carried_nothing : (t : Terms) (y : ActorId) (next : ℕ) (e : Event) (act : Act) (to : ActorId) (m : Message) (a : Answer) → Carried t y next e act to m a → (bind_in (act, a) ≡ []) × ((bound_in (act, a) ≡ []) × ((refused (act, a) ≡ []) × ((place_in (act, a) ≡ []) × ((count_in (act, a) ≡ []) × (info_in (act, a) ≡ [])))))
@@ -154,23 +167,24 @@ asks_carried t y log n e act to m a next q (CGive w id c b r) = tt
 
 pub showing_answered : (t : Terms) (y : ActorId) (h : Hand) (e : Event) (act : Act) (to : ActorId) (m : Message) (a : Answer) (next : Act) → last_after Done h.log ≡ act → Carried t y h.next e act to m a → Showing t (Sending e act to m a) h → Showing t (Acting e next) (answered h to m a next)
 showing_answered t y h e act to m a next q c k =
-  let n = carried_nothing t y h.next e act to m a c in
-  record {
-    passes = nothing_more bind_in h.log act a next q n.0 ∙ k.passes;
-    bounds = nothing_more bound_in h.log act a next q n.1.0 ∙ k.bounds;
-    others = nothing_more refused h.log act a next q n.1.1.0 ∙ k.others;
-    seat = nothing_more place_in h.log act a next q n.1.1.1.0 ∙ k.seat;
-    sums = nothing_more count_in h.log act a next q n.1.1.1.1.0 ∙ k.sums;
-    fulls = nothing_more task_full h.log act a next q (carried_marks t y h.next e act to m a c).0 ∙ k.fulls;
-    stops = nothing_more stop_in h.log act a next q (carried_marks t y h.next e act to m a c).1.0 ∙ k.stops;
-    busy = nothing_more busy_in h.log act a next q (carried_marks t y h.next e act to m a c).1.1.0 ∙ k.busy;
-    spents = nothing_more spent_in h.log act a next q (carried_marks t y h.next e act to m a c).1.1.1 ∙ k.spents;
-    finds = subst (Each (Found t h.seen)) (sym (nothing_more info_in h.log act a next q n.1.1.1.1.1)) k.finds;
-    grants = subst (Each (Granted (h.log ++ (AnswerGiven a, next) ∷ []) h.seen)) (sym (shown granted h.log act a next q)) (each_append (Granted (h.log ++ (AnswerGiven a, next) ∷ []) h.seen) (collect granted (answers_of h.log)) (granted (act, a)) (each_more (Granted h.log h.seen) (Granted (h.log ++ (AnswerGiven a, next) ∷ []) h.seen) (collect granted (answers_of h.log)) (λ s g. grant_said h.log h.seen a next s g) k.grants) (each_more (Granted h.log h.seen) (Granted (h.log ++ (AnswerGiven a, next) ∷ []) h.seen) (granted (act, a)) (λ s g. grant_said h.log h.seen a next s g) (subst (Each (Granted h.log h.seen)) (append-nil (granted (act, a))) k.pending)));
-    pending = tt;
-    owned = λ s o. told_still_not s h.log a next (k.owned s o);
-    current = λ s. ((λ o. told_still_not s h.log a next ((k.current s).0 o)), tt);
-    asks = each_append (λ (p : ActorId × Message). Asks (h.log ++ (AnswerGiven a, next) ∷ []) p.1) h.pushed ((to, m) ∷ []) (all_ask_more h.log ((AnswerGiven a, next) ∷ []) h.pushed k.asks) (asks_carried t y h.log h.next e act to m a next q c, tt) }
+    let n = carried_nothing t y h.next e act to m a c in
+    record {
+      passes = nothing_more bind_in h.log act a next q n.0 ∙ k.passes;
+      bounds = nothing_more bound_in h.log act a next q n.1.0 ∙ k.bounds;
+      others = nothing_more refused h.log act a next q n.1.1.0 ∙ k.others;
+      seat = nothing_more place_in h.log act a next q n.1.1.1.0 ∙ k.seat;
+      sums = nothing_more count_in h.log act a next q n.1.1.1.1.0 ∙ k.sums;
+      fulls = nothing_more task_full h.log act a next q (carried_marks t y h.next e act to m a c).0 ∙ k.fulls;
+      stops = nothing_more stop_in h.log act a next q (carried_marks t y h.next e act to m a c).1.0 ∙ k.stops;
+      busy = nothing_more busy_in h.log act a next q (carried_marks t y h.next e act to m a c).1.1.0 ∙ k.busy;
+      spents = nothing_more spent_in h.log act a next q (carried_marks t y h.next e act to m a c).1.1.1 ∙ k.spents;
+      finds = subst (Each (Found t h.seen)) (sym (nothing_more info_in h.log act a next q n.1.1.1.1.1)) k.finds;
+      grants = subst (Each (Granted (h.log ++ (AnswerGiven a, next) ∷ []) h.seen)) (sym (shown granted h.log act a next q)) (each_append (Granted (h.log ++ (AnswerGiven a, next) ∷ []) h.seen) (collect granted (answers_of h.log)) (granted (act, a)) (each_more (Granted h.log h.seen) (Granted (h.log ++ (AnswerGiven a, next) ∷ []) h.seen) (collect granted (answers_of h.log)) (λ s g. grant_said h.log h.seen a next s g) k.grants) (each_more (Granted h.log h.seen) (Granted (h.log ++ (AnswerGiven a, next) ∷ []) h.seen) (granted (act, a)) (λ s g. grant_said h.log h.seen a next s g) (subst (Each (Granted h.log h.seen)) (append-nil (granted (act, a))) k.pending)));
+      pending = tt;
+      owned = λ s o. told_still_not s h.log a next (k.owned s o);
+      current = λ s. ((λ o. told_still_not s h.log a next ((k.current s).0 o)), tt);
+      asks = each_append (λ (p : ActorId × Message). Asks (h.log ++ (AnswerGiven a, next) ∷ []) p.1) h.pushed ((to, m) ∷ []) (all_ask_more h.log ((AnswerGiven a, next) ∷ []) h.pushed k.asks) (asks_carried t y h.log h.next e act to m a next q c, tt);
+    }
 
 -- an event is heard
 of_when : (u s : ℕ) (x : Event) → (u == s) ≡ true → ¬ (when (u == s) x ≡ [])
@@ -192,6 +206,7 @@ own_told t own log act (Connect u) s k o₀ = kept (keeps t.mode) o₀
     slot : (w : Bool) → is_some s (if w then Some u else own (s % t.max_conn)) ≡ true → ¬ (told_of s (log ++ (EventGiven (Connect u), act) ∷ []) ≡ [])
     slot true o = told_it s log (Connect u) act o
     slot false o = told_more_not s log (Connect u) act (k s o)
+
     kept : (v : Bool) → is_some s ((if v then at_fd own (u % t.max_conn) (Some u) else own) (s % t.max_conn)) ≡ true → ¬ (told_of s (log ++ (EventGiven (Connect u), act) ∷ []) ≡ [])
     kept true o = slot (s % t.max_conn == u % t.max_conn) o
     kept false o = told_more_not s log (Connect u) act (k s o)
@@ -216,7 +231,8 @@ showing_hear t c h from e act k = record {
   pending = tt;
   owned = λ s o. own_told t h.own h.log act e s k.owned o;
   current = λ s. ((λ o. told_it s h.log e act o), tt);
-  asks = all_ask_more h.log ((EventGiven e, act) ∷ []) h.pushed k.asks }
+  asks = all_ask_more h.log ((EventGiven e, act) ∷ []) h.pushed k.asks;
+}
 
 -- steps that leave the log and the ports
 pub showing_stage : (t : Terms) (st other : Stage) (h : Hand) → now st ≡ now other → Pending h.log h.seen other → Showing t st h → Showing t other h
@@ -237,6 +253,7 @@ less_is t own u s = outer (is_some u (own (u % t.max_conn)))
     inner : (w : Bool) → is_some s (if w then None else own (s % t.max_conn)) ≡ true → is_some s (own (s % t.max_conn)) ≡ true
     inner true o = absurd (cc)
     inner false o = o
+
     outer : (v : Bool) → is_some s ((if v then at_fd own (u % t.max_conn) None else own) (s % t.max_conn)) ≡ true → is_some s (own (s % t.max_conn)) ≡ true
     outer true o = inner (s % t.max_conn == u % t.max_conn) o
     outer false o = o
@@ -288,4 +305,3 @@ ask_carried t y log n e act to m a q (CClose s) = asked_last log (Close s) (λ r
 ask_carried t y log n e act to m a q (CReset s) = asked_last log (Reset s) (λ r. absurd (cc)) q
 ask_carried t y log n e act to m a q (CPost w k d b r f lt) = tt
 ask_carried t y log n e act to m a q (CGive w id c b r) = tt
-

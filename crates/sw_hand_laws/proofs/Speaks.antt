@@ -40,7 +40,8 @@ speaks_at_once t y h e act seen a next k may q = record {
   carries = tt;
   told = told_same h.log a next ∙ k.told;
   talk = λ s. k.talk s ∙ sym (append-nil (settled t s h.log)) ∙ ap (λ ms. settled t s h.log ++ ms) (sym (silent_said s (owes t s e) act a q)) ∙ sym (settled_by t s h.log (AnswerGiven a) next (owes t s e) act (k.owing s).0 k.last);
-  routed = k.routed }
+  routed = k.routed;
+}
 
 -- a push for the act
 pub speaks_asked : (t : Terms) (y : ActorId) (h : Hand) (e : Event) (act : Act) (seen : Seen) (to : ActorId) (m : Message) (a : Answer) → Speaks t y (Acting e act) h → Carried t y h.next e act to m a → Speaks t y (Sending e act to m a) (record h { seen = seen })
@@ -133,7 +134,8 @@ speaks_answered t y h e act to m a next hand there k = record {
   carries = tt;
   told = told_same h.log a next ∙ k.told;
   talk = λ s. of_collect (talk_in s) (Reactor (reactor_of t s)) h.pushed to m ∙ ap (λ (ms : List Message). ms ++ heard_by t s to m) (k.talk s) ∙ ap (λ (ms : List Message). settled t s h.log ++ ms) (says_carried t y h.next e act to m a s (owes t s e) k.carries) ∙ sym (settled_by t s h.log (AnswerGiven a) next (owes t s e) act (k.owing s).0 k.last);
-  routed = each_append (λ (p : ActorId × Message). MayPush t y p.0 p.1) h.pushed ((to, m) ∷ []) k.routed (may_push t y h.next e act to m a hand there k.mine.0 k.carries, tt) }
+  routed = each_append (λ (p : ActorId × Message). MayPush t y p.0 p.1) h.pushed ((to, m) ∷ []) k.routed (may_push t y h.next e act to m a hand there k.mine.0 k.carries, tt);
+}
 
 -- a task finds its pipe full
 pub speaks_full : (t : Terms) (y : ActorId) (h : Hand) (e : Event) (d : Dst) (b : List ℕ) (to : ActorId) (m : Message) (a : Answer) (next : Act) → Speaks t y (Sending e (TaskAct d b) to m a) h → Speaks t y (Acting e next) (say h (AnswerGiven TaskFull) next)
@@ -149,30 +151,49 @@ speaks_hear t y c h from e act mine k = record {
   carries = tt;
   told = one_more event_of h.log (EventGiven e, act) ∙ ap (λ (es : List Event). es ++ e ∷ []) k.told ∙ ap (λ (es : List Event). collect (heard_in y) (bare h.took) ++ es) (sym (append-nil (for_hand y e) ∙ mine)) ∙ sym (bare_collect (heard_in y) h.took from (EventMsg e));
   talk = λ s. k.talk s ∙ said_by_done t s h.log (owed_after t s [] h.log) refl k.last ∙ sym (settled_by t s h.log (EventGiven e) act (owed_after t s [] h.log) Done refl k.last);
-  routed = k.routed }
+  routed = k.routed;
+}
 
 -- another message is counted
 pub speaks_skip : (t : Terms) (y : ActorId) (h : Hand) (from : ActorId) (m : Message) → heard_in y m ≡ [] → Speaks t y Idle h → Speaks t y Idle (skip h from m)
 speaks_skip t y h from m none k = record {
-  dialogue = k.dialogue; last = k.last; mine = tt; owing = k.owing; carries = tt;
+  dialogue = k.dialogue;
+  last = k.last;
+  mine = tt;
+  owing = k.owing;
+  carries = tt;
   told = k.told ∙ sym (append-nil (collect (heard_in y) (bare h.took))) ∙ ap (λ (es : List Event). collect (heard_in y) (bare h.took) ++ es) (sym none) ∙ sym (bare_collect (heard_in y) h.took from m);
-  talk = k.talk; routed = k.routed }
+  talk = k.talk;
+  routed = k.routed;
+}
 
 -- an event without last words is over
 pub speaks_over : (t : Terms) (y : ActorId) (h : Hand) (e : Event) → last_words t y e ≡ [] → Speaks t y (Acting e Done) h → Speaks t y Idle h
 speaks_over t y h e none k = record {
-  dialogue = k.dialogue; last = k.last; mine = tt; owing = λ s. tt; carries = tt; told = k.told;
+  dialogue = k.dialogue;
+  last = k.last;
+  mine = tt;
+  owing = λ s. tt;
+  carries = tt;
+  told = k.told;
   talk = λ s. k.talk s ∙ sym (append-nil (settled t s h.log)) ∙ ap (λ (ms : List Message). settled t s h.log ++ ms) (sym (last_none t y s e k.mine.0 none)) ∙ sym (said_by_done t s h.log (owes t s e) (k.owing s).0 k.last);
-  routed = k.routed }
+  routed = k.routed;
+}
 
 pub speaks_leave : (t : Terms) (y : ActorId) (h : Hand) (e : Event) (to : ActorId) (m : Message) → last_words t y e ≡ (to, m) ∷ [] → Speaks t y (Acting e Done) h → Speaks t y (Leaving e to m) h
 speaks_leave t y h e to m q k = record { dialogue = k.dialogue; last = k.last; mine = k.mine; owing = k.owing; carries = q; told = k.told; talk = k.talk; routed = k.routed }
 
 pub speaks_left : (t : Terms) (y : ActorId) (h : Hand) (e : Event) (to : ActorId) (m : Message) → IsHand t y → IsPresent t to → Speaks t y (Leaving e to m) h → Speaks t y Idle (left_event t h e to m)
 speaks_left t y h e to m hand there k = record {
-  dialogue = k.dialogue; last = k.last; mine = tt; owing = λ s. tt; carries = tt; told = k.told;
+  dialogue = k.dialogue;
+  last = k.last;
+  mine = tt;
+  owing = λ s. tt;
+  carries = tt;
+  told = k.told;
   talk = λ s. of_collect (talk_in s) (Reactor (reactor_of t s)) h.pushed to m ∙ ap (λ (ms : List Message). ms ++ heard_by t s to m) (k.talk s) ∙ ap (λ (ms : List Message). settled t s h.log ++ ms) (last_hears t y s e to m k.mine.0 k.carries) ∙ sym (said_by_done t s h.log (owes t s e) (k.owing s).0 k.last);
-  routed = each_append (λ (p : ActorId × Message). MayPush t y p.0 p.1) h.pushed ((to, m) ∷ []) k.routed (last_goes t y e to m hand k.carries there, tt) }
+  routed = each_append (λ (p : ActorId × Message). MayPush t y p.0 p.1) h.pushed ((to, m) ∷ []) k.routed (last_goes t y e to m hand k.carries there, tt);
+}
 
 -- NoMore
 ends_if : (t : Terms) (y : ActorId) (k : ℕ) (v : Bool) → ltb k t.reactor_num ≡ v → k < goodbyes t y → IsHand t y → IsPresent t (if v then Reactor k else Tasker (k - t.reactor_num)) → MayPush t y (if v then Reactor k else Tasker (k - t.reactor_num)) NoMore
@@ -190,6 +211,13 @@ pub speaks_stopped : (t : Terms) (y : ActorId) (h : Hand) → Speaks t y Idle h 
 speaks_stopped t y h s = record { dialogue = s.dialogue; last = s.last; mine = tt; owing = s.owing; carries = tt; told = s.told; talk = s.talk; routed = s.routed }
 
 pub speaks_ended : (t : Terms) (y : ActorId) (h : Hand) (k : ℕ) → IsHand t y → IsPresent t (goodbye t k) → Speaks t y (Stopping k) h → Speaks t y Idle (settle h (goodbye t k) NoMore)
-speaks_ended t y h k hand there s = record { dialogue = s.dialogue; last = s.last; mine = tt; owing = s.owing; carries = tt; told = s.told;
+speaks_ended t y h k hand there s = record {
+  dialogue = s.dialogue;
+  last = s.last;
+  mine = tt;
+  owing = s.owing;
+  carries = tt;
+  told = s.told;
   talk = λ u. of_collect (talk_in u) (Reactor (reactor_of t u)) h.pushed (goodbye t k) NoMore ∙ ap (λ ms. collect (talk_in u) (of (Reactor (reactor_of t u)) h.pushed) ++ ms) (none_here (talk_in u) (is (goodbye t k) (Reactor (reactor_of t u))) NoMore refl) ∙ append-nil (collect (talk_in u) (of (Reactor (reactor_of t u)) h.pushed)) ∙ s.talk u;
-  routed = each_append (λ (p : ActorId × Message). MayPush t y p.0 p.1) h.pushed ((goodbye t k, NoMore) ∷ []) s.routed (may_end t y k s.carries hand there, tt) }
+  routed = each_append (λ (p : ActorId × Message). MayPush t y p.0 p.1) h.pushed ((goodbye t k, NoMore) ∷ []) s.routed (may_end t y k s.carries hand there, tt);
+}

@@ -68,14 +68,16 @@ later g a log (inr (at, (f, (next, (e, r))))) = (suc at, (f, (next, (e, r))))
 
 stop_asked : (act : Act) (log : Log) → ¬ (collect stop_in (answers_after act log) ≡ []) → DialogueAfter act log → ((act ≡ Shutdown) × ((next : Act) × (slice_get log 0 ≡ Some (AnswerGiven Asked, next)))) ⊎ Later log
 stop_asked act [] n d = absurd (n refl)
-stop_asked act ((g, a) ∷ log) n d = elim (stop_here act g d.0)
-  [ inl e ↦ inr (later g a log (stop_asked a log (λ r. n (collect-append stop_in (answer_to act g) (answers_after a log) ∙ ap (λ (ns : List ℕ). ns ++ collect stop_in (answers_after a log)) e ∙ r)) d.1))
-  | inr q ↦ inl (q.0, (a, ap (λ (x : Given). Some (x, a)) q.1)) ]
+stop_asked act ((g, a) ∷ log) n d = elim (stop_here act g d.0) [
+  | inl e ↦ inr (later g a log (stop_asked a log (λ r. n (collect-append stop_in (answer_to act g) (answers_after a log) ∙ ap (λ (ns : List ℕ). ns ++ collect stop_in (answers_after a log)) e ∙ r)) d.1))
+  | inr q ↦ inl (q.0, (a, ap (λ (x : Given). Some (x, a)) q.1))
+]
 
 -- a stop word that this hand set is in its log
 pub stop_local : (t : Terms) (c : ℕ) (left : ℕ) (p : Past) (at : ActorId → Hand) → Hands t c left p at → (y : ActorId) → IsHand t y → ¬ ((at y).seen.stops ≡ []) → IsAsked (p.log y) Shutdown
 stop_local t c left p at k y hand n =
-  let s = k.shows y hand in
-  subst (λ (l : Log). IsAsked l Shutdown) (sym s.log_is) (elim (stop_asked Done (at y).log (λ e. n (sym s.showing.stops ∙ e)) s.shown.hand.dialogue)
-    [ inl q ↦ absurd (let r : Done ≡ Shutdown = q.0 in cc)
-    | inr (i, (g, (next, (e, f)))) ↦ record { at = i; given = g; there = e; answer = inr (next, f) } ])
+    let s = k.shows y hand in
+    subst (λ (l : Log). IsAsked l Shutdown) (sym s.log_is) (elim (stop_asked Done (at y).log (λ e. n (sym s.showing.stops ∙ e)) s.shown.hand.dialogue) [
+      | inl q ↦ absurd (let r : Done ≡ Shutdown = q.0 in cc)
+      | inr (i, (g, (next, (e, f)))) ↦ record { at = i; given = g; there = e; answer = inr (next, f) }
+    ])

@@ -4,18 +4,18 @@ use Rattle.std.proofs.lemmas.Bool.Decides.{nat_tests}
 use Rattle.sw_lists.specs.Lists.{collect, Each}
 use Rattle.sw_lists.proofs.Lists.{length_append}
 use Rattle.sw_step.specs.declared.actor.ActorId.{ActorId}
-use Rattle.sw_record.specs.Words.{Event, Act, Send, Close, Reset, Bind, Exist, Info, TaskAct, FinishAct, Table, Stats, Shutdown, Done, Answer, Sent, Asked, BindOk, Exists, InfoIs, Posted, Finished, TableIs, TableRefused, Count, NoSession, Bound, BadUid, WrongMode, TaskFull, BadTarget, NoTaskWorkers, IdsSpent, NotHere, NoTable, EventGiven, AnswerGiven, Log, AcceptedCount, Counter, EndedCount, FinishesCount, PacketsCount, SendsCount, TasksCount}
+use Rattle.sw_record.specs.Words.{Given, Event, Act, Send, Close, Reset, Bind, Exist, Info, TaskAct, FinishAct, Table, Stats, Shutdown, Done, Answer, Sent, Asked, BindOk, Exists, InfoIs, Posted, Finished, TableIs, TableRefused, Count, NoSession, Bound, BadUid, WrongMode, TaskFull, BadTarget, NoTaskWorkers, IdsSpent, NotHere, NoTable, EventGiven, AnswerGiven, Log, AcceptedCount, Counter, EndedCount, FinishesCount, PacketsCount, SendsCount, TasksCount}
 use Rattle.sw_record.specs.Terms.{Terms}
 use Rattle.sw_record.specs.Answers.{answers_of, answer_to}
 use Rattle.sw_record.specs.Counts.{counted, tally, count_in, greatest}
 use Rattle.sw_past.specs.Messages.{Message, NoMore}
 use Rattle.sw_past.specs.Said.{last_after}
 use Rattle.sw_join.proofs.Own.{behind}
-use Rattle.sw_hand_laws.specs.Hand.{Got, Ports, Seen, Stage, Hand, say, skip, settle, left_event, more, words_with, goodbye, turn}
+use Rattle.sw_hand_laws.specs.Hand.{Got, Ports, Seen, Stage, Hand, say, skip, settle, left_event, more, words_with, goodbye, turn, Acting}
 use Rattle.sw_hand_laws.specs.Keeps.{Carried, CSend, CClose, CReset, CPost, CGive, silent}
 use Rattle.sw_hand_laws.specs.Kept.{Kept, GotFits}
 use Rattle.sw_hand_laws.specs.Fits.{Saturated, SumsAfter, Tallied}
-use Rattle.sw_hand_laws.specs.Moved.{Moved, Waits, Answers, Aims, Sends, Fulls, Hears, Skips, Overs, Leaves, Lefts, Stops, Nones, SkipStops, SkipNones, Nexts, Lasts, Sums, PortsFit, Holds}
+use Rattle.sw_hand_laws.specs.Moved.{Moved, Waits, Answers, Aims, Sends, Fulls, Hears, Skips, Overs, Leaves, Lefts, Stops, Nones, SkipStops, SkipNones, Nexts, Lasts, PortsFit, SumFits, Holds}
 use Rattle.sw_hand_laws.proofs.Ends.{one_more, answers_more}
 use Rattle.sw_hand_laws.proofs.Moves.{turn_moves}
 use Rattle.sw_hand_laws.proofs.Fitting.{holds}
@@ -161,7 +161,7 @@ least_sum : (n w k : ℕ) → Saturated n w → w ≤ k → k ≤ greatest → (
 least_sum n w k (inl h) le top = inl (omega (arith, h.0, le))
 least_sum n w k (inr h) le top = inr (omega (arith, h.0, le, top))
 
-sum_answer : (log : Log) (words : Counter → ℕ) (act : Act) (a : Answer) → ((k : Counter) → Saturated (length (tally k log)) (words k)) → Sums words act a → Each (IsLeast (answers_of log)) (count_in (act, a))
+sum_answer : (log : Log) (words : Counter → ℕ) (act : Act) (a : Answer) → ((k : Counter) → Saturated (length (tally k log)) (words k)) → ((c : Counter) (n : ℕ) → act ≡ Stats c → a ≡ Count n → (words c ≤ n) × (n ≤ greatest)) → Each (IsLeast (answers_of log)) (count_in (act, a))
 sum_answer log words (Send s b) an w h = tt
 sum_answer log words (Close s) an w h = tt
 sum_answer log words (Reset s) an w h = tt
@@ -182,7 +182,7 @@ sum_answer log words (Stats c) (Posted n) w h = tt
 sum_answer log words (Stats c) Finished w h = tt
 sum_answer log words (Stats c) (TableIs at r cells) w h = tt
 sum_answer log words (Stats c) (TableRefused n) w h = tt
-sum_answer log words (Stats c) (Count n) w h = (least_sum (length (tally c log)) (words c) n (w c) h.0 h.1, tt)
+sum_answer log words (Stats c) (Count n) w h = (least_sum (length (tally c log)) (words c) n (w c) (h c n refl refl).0 (h c n refl refl).1, tt)
 sum_answer log words (Stats c) (NoSession n) w h = tt
 sum_answer log words (Stats c) (Bound n) w h = tt
 sum_answer log words (Stats c) BadUid w h = tt
@@ -202,40 +202,65 @@ sum_carried t y next e act to m a before (CPost w k d b q f r) = tt
 sum_carried t y next e act to m a before (CGive w id c b q) = tt
 
 -- an answer that adds to no word
-tallied_say : (h : Hand) (seen : Seen) (act : Act) (a : Answer) (next : Act) → last_after Done h.log ≡ act → silent a ≡ true → Sums h.words act a → Tallied h → Tallied (say (record h { seen = seen }) (AnswerGiven a) next)
+tallied_say : (h : Hand) (seen : Seen) (act : Act) (a : Answer) (next : Act) → last_after Done h.log ≡ act → silent a ≡ true → ((c : Counter) (n : ℕ) → act ≡ Stats c → a ≡ Count n → (h.words c ≤ n) × (n ≤ greatest)) → Tallied h → Tallied (say (record h { seen = seen }) (AnswerGiven a) next)
 tallied_say h seen act a next q s sums k = record {
   words = λ i. subst (λ n. Saturated n (h.words i)) (sym (tally_now i h.log act a next q ∙ ap (λ ns. length (tally i h.log) + length ns) (silent_counted i act a s))) (none_if (length (tally i h.log)) (h.words i) (k.words i));
-  sums = subst (SumsAfter []) (sym (answers_now h.log act a next q)) (sums_more [] (answers_of h.log) (act, a) k.sums (sum_answer h.log h.words act a k.words sums)) }
+  sums = subst (SumsAfter []) (sym (answers_now h.log act a next q)) (sums_more [] (answers_of h.log) (act, a) k.sums (sum_answer h.log h.words act a k.words sums));
+}
 
 tallied_same : (h other : Hand) → other.log ≡ h.log → other.words ≡ h.words → Tallied h → Tallied other
 tallied_same h other l w k = record {
   words = λ i. subst (λ (ws : Counter → ℕ). Saturated (length (tally i other.log)) (ws i)) (sym w) (subst (λ (x : Log). Saturated (length (tally i x)) (h.words i)) (sym l) (k.words i));
-  sums = subst (λ (x : Log). SumsAfter [] (answers_of x)) (sym l) k.sums }
+  sums = subst (λ (x : Log). SumsAfter [] (answers_of x)) (sym l) k.sums;
+}
 
-pub tallied_moves : (t : Terms) (y : ActorId) (c : ℕ) (a b : Stage) (f g : Hand) → Moved t y c a f b g → Holds t y a f → Tallied f → Tallied g
-tallied_moves t y c a b f g (Waits st h) held k = k
-tallied_moves t y c a b f g (Answers h e act after ans next may q fit sums) held k = tallied_say h after act ans next held.last q sums k
-tallied_moves t y c a b f g (Aims h e act after to m ans car fit aim) held k = tallied_same h (record h { seen = after }) refl refl k
-tallied_moves t y c a b f g (Sends h e act to m ans next) held k = record {
+-- a sum that was told was at least the hand's own word
+abbrev pub SumMay : Stage → Hand → Hand → Type 0
+SumMay a f g = (e : Event) (c : Counter) (n : ℕ) (next : Act) → a ≡ Acting e (Stats c) → g.log ≡ f.log ++ (AnswerGiven (Count n), next) ∷ [] → (f.words c ≤ n) × (n ≤ greatest)
+
+told_sum : (h g : Hand) (e : Event) (act : Act) (ans : Answer) (next : Act) → SumMay (Acting e act) h g → g.log ≡ h.log ++ (AnswerGiven ans, next) ∷ [] → (c : Counter) (n : ℕ) → act ≡ Stats c → ans ≡ Count n → (h.words c ≤ n) × (n ≤ greatest)
+told_sum h g e act ans next may l c n q r = may e c n next (ap (Acting e) q) (l ∙ ap (λ (a : Answer). h.log ++ (AnswerGiven a, next) ∷ []) r)
+
+pub tallied_moves : (t : Terms) (y : ActorId) (c : ℕ) (a b : Stage) (f g : Hand) → Moved t y c a f b g → Holds t y a f → SumMay a f g → Tallied f → Tallied g
+tallied_moves t y c a b f g (Waits st h) held sums k = k
+tallied_moves t y c a b f g (Answers h e act after ans next may q fit) held sums k = tallied_say h after act ans next held.last q (told_sum h (say (record h { seen = after }) (AnswerGiven ans) next) e act ans next sums refl) k
+tallied_moves t y c a b f g (Aims h e act after to m ans car fit aim) held sums k = tallied_same h (record h { seen = after }) refl refl k
+tallied_moves t y c a b f g (Sends h e act to m ans next) held sums k = record {
   words = λ i. subst (λ n. Saturated n (words_with h.words ans i)) (sym (tally_now i h.log act ans next held.last)) (words_carried t y h.next e act to m ans i (length (tally i h.log)) h.words held.carries (k.words i));
-  sums = subst (SumsAfter []) (sym (answers_now h.log act ans next held.last)) (sums_more [] (answers_of h.log) (act, ans) k.sums (sum_carried t y h.next e act to m ans (answers_of h.log) held.carries)) }
-tallied_moves t y c a b f g (Fulls h e d s to m ans after next) held k = tallied_say h after (TaskAct d s) TaskFull next held.last refl tt k
-tallied_moves t y c a b f g (Hears h from e act mine) held k = record {
+  sums = subst (SumsAfter []) (sym (answers_now h.log act ans next held.last)) (sums_more [] (answers_of h.log) (act, ans) k.sums (sum_carried t y h.next e act to m ans (answers_of h.log) held.carries));
+}
+tallied_moves t y c a b f g (Fulls h e d s to m ans after next) held sums k = tallied_say h after (TaskAct d s) TaskFull next held.last refl (λ i n x z. absurd (cc)) k
+tallied_moves t y c a b f g (Hears h from e act mine) held sums k = record {
   words = λ i. subst (λ xs. Saturated (length (collect (counted i) xs)) (h.words i)) (sym (answers_same h.log e act)) (k.words i);
-  sums = subst (SumsAfter []) (sym (answers_same h.log e act)) k.sums }
-tallied_moves t y c a b f g (Skips h from m none) held k = tallied_same h (skip h from m) refl refl k
-tallied_moves t y c a b f g (Overs h e none) held k = k
-tallied_moves t y c a b f g (Leaves h e to m q) held k = k
-tallied_moves t y c a b f g (Lefts h e to m) held k = tallied_same h (left_event t h e to m) refl refl k
-tallied_moves t y c a b f g (Stops h) held k = k
-tallied_moves t y c a b f g (Nones h) held k = k
-tallied_moves t y c a b f g (SkipStops h from m none) held k = tallied_same h (skip h from m) refl refl k
-tallied_moves t y c a b f g (SkipNones h from m none) held k = tallied_same h (skip h from m) refl refl k
-tallied_moves t y c a b f g (Nexts h j) held k = tallied_same h (settle h (goodbye t j) NoMore) refl refl k
-tallied_moves t y c a b f g (Lasts h j) held k = tallied_same h (settle h (goodbye t j) NoMore) refl refl k
+  sums = subst (SumsAfter []) (sym (answers_same h.log e act)) k.sums;
+}
+tallied_moves t y c a b f g (Skips h from m none) held sums k = tallied_same h (skip h from m) refl refl k
+tallied_moves t y c a b f g (Overs h e none) held sums k = k
+tallied_moves t y c a b f g (Leaves h e to m q) held sums k = k
+tallied_moves t y c a b f g (Lefts h e to m) held sums k = tallied_same h (left_event t h e to m) refl refl k
+tallied_moves t y c a b f g (Stops h) held sums k = k
+tallied_moves t y c a b f g (Nones h) held sums k = k
+tallied_moves t y c a b f g (SkipStops h from m none) held sums k = tallied_same h (skip h from m) refl refl k
+tallied_moves t y c a b f g (SkipNones h from m none) held sums k = tallied_same h (skip h from m) refl refl k
+tallied_moves t y c a b f g (Nexts h j) held sums k = tallied_same h (settle h (goodbye t j) NoMore) refl refl k
+tallied_moves t y c a b f g (Lasts h j) held sums k = tallied_same h (settle h (goodbye t j) NoMore) refl refl k
 
-pub turn_tallied : (t : Terms) (y : ActorId) (c : ℕ) (p : Ports) (st : Stage) (h : Hand) (got : Got) → PortsFit t st h p → GotFits t st got → Kept t y st h → Tallied h → Tallied (turn t y c p st h got).hand
-turn_tallied t y c p st h got u f k r = tallied_moves t y c st (turn t y c p st h got).stage h (turn t y c p st h got).hand (turn_moves t y c p st h got u f) (holds t y st h k) r
+-- the sum of a turn
+same_end : (log : Log) (x z : Given × Act) → log ++ x ∷ [] ≡ log ++ z ∷ [] → x ≡ z
+same_end [] x z q = cc
+same_end (y ∷ log) x z q = same_end log x z (cc)
+
+sum_turn : (t : Terms) (y : ActorId) (c : ℕ) (p : Ports) (st : Stage) (h : Hand) (got : Got) → SumFits st h p → SumMay st h (turn t y c p st h got).hand
+sum_turn t y c p st h got s e i n next q l =
+    let s₁ : SumFits (Acting e (Stats i)) h p = subst (λ (x : Stage). SumFits x h p) q s in
+    let l₁ : (turn t y c p (Acting e (Stats i)) h got).hand.log ≡ h.log ++ (AnswerGiven (Count n), next) ∷ [] = subst (λ (x : Stage). (turn t y c p x h got).hand.log ≡ h.log ++ (AnswerGiven (Count n), next) ∷ []) q l in
+    let same : (AnswerGiven (Count p.sum), p.act) ≡ (AnswerGiven (Count n), next) = same_end h.log (AnswerGiven (Count p.sum), p.act) (AnswerGiven (Count n), next) l₁ in
+    let given : AnswerGiven (Count p.sum) ≡ AnswerGiven (Count n) = ap (λ (x : Given × Act). x.0) same in
+    let num : p.sum ≡ n = cc in
+    subst (λ k. (h.words i ≤ k) × (k ≤ greatest)) num s₁
+
+pub turn_tallied : (t : Terms) (y : ActorId) (c : ℕ) (p : Ports) (st : Stage) (h : Hand) (got : Got) → PortsFit t st h p → SumFits st h p → GotFits t st got → Kept t y st h → Tallied h → Tallied (turn t y c p st h got).hand
+turn_tallied t y c p st h got u s f k r = tallied_moves t y c st (turn t y c p st h got).stage h (turn t y c p st h got).hand (turn_moves t y c p st h got u f) (holds t y st h k) (sum_turn t y c p st h got s) r
 
 -- a sum is at least what was added before
 least_after : (pre xs before behind : List (Act × Answer)) (c : Counter) (n : ℕ) → SumsAfter pre xs → xs ≡ before ++ (Stats c, Count n) ∷ behind → (length (collect (counted c) (pre ++ before)) ≤ n) ⊎ (n ≡ greatest)

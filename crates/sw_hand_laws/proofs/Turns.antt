@@ -42,7 +42,8 @@ kept_at_once t y h e act after a next may q n k = record {
   posting = λ w r. posting_at_once w h after a next q (k.posting w r);
   making = making_at_once h e act after a next q k.making;
   showing = showing_at_once t h e act after a next k.speaks.last n k.showing;
-  ending = ending_stage t y (Acting e act) (Acting e next) (say (record h { seen = after }) (AnswerGiven a) next) refl tt (ending_say t y (Acting e act) h after (AnswerGiven a) next k.ending) }
+  ending = ending_stage t y (Acting e act) (Acting e next) (say (record h { seen = after }) (AnswerGiven a) next) refl tt (ending_say t y (Acting e act) h after (AnswerGiven a) next k.ending);
+}
 
 kept_asked : (t : Terms) (y : ActorId) (h : Hand) (e : Event) (act : Act) (lives : List ℕ) (to : ActorId) (m : Message) (a : Answer) → Carried t y h.next e act to m a → IsPrefix h.seen.lives lives → Each (Granted h.log (record h.seen { lives = lives })) (granted (act, a)) → Kept t y (Acting e act) h → Kept t y (Sending e act to m a) (record h { seen = record h.seen { lives = lives } })
 kept_asked t y h e act lives to m a c p g k = record {
@@ -50,7 +51,8 @@ kept_asked t y h e act lives to m a c p g k = record {
   posting = λ w r. posting_seen w h (record h.seen { lives = lives }) (k.posting w r);
   making = making_stage (Acting e act) (Sending e act to m a) h (record h.seen { lives = lives }) refl k.making;
   showing = showing_asked t h e act lives to m a p g k.showing;
-  ending = ending_stage t y (Acting e act) (Sending e act to m a) (record h { seen = record h.seen { lives = lives } }) refl tt (ending_seen t y e act h (record h.seen { lives = lives }) k.ending) }
+  ending = ending_stage t y (Acting e act) (Sending e act to m a) (record h { seen = record h.seen { lives = lives } }) refl tt (ending_seen t y e act h (record h.seen { lives = lives }) k.ending);
+}
 
 kept_answered : (t : Terms) (y : ActorId) (h : Hand) (e : Event) (act : Act) (to : ActorId) (m : Message) (a : Answer) (next : Act) → IsHand t y → IsPresent t to → Kept t y (Sending e act to m a) h → Kept t y (Acting e next) (answered h to m a next)
 kept_answered t y h e act to m a next hand there k = record {
@@ -58,7 +60,8 @@ kept_answered t y h e act to m a next hand there k = record {
   posting = λ w r. posting_answered t w h e act to m a next k.speaks.last (subst (λ (z : ActorId). Carried t z h.next e act to m a) r k.speaks.carries) (k.posting w r);
   making = making_answered t y h e act to m a next k.speaks.last k.speaks.carries k.making;
   showing = showing_answered t y h e act to m a next k.speaks.last k.speaks.carries k.showing;
-  ending = ending_answered t y h e act to m a next (carried_not t y h.next e act to m a k.speaks.carries) k.ending }
+  ending = ending_answered t y h e act to m a next (carried_not t y h.next e act to m a k.speaks.carries) k.ending;
+}
 
 kept_again : (t : Terms) (y : ActorId) (h : Hand) (e : Event) (act : Act) (to : ActorId) (m : Message) (a : Answer) → Kept t y (Sending e act to m a) h → Kept t y (Acting e act) h
 kept_again t y h e act to m a k = record {
@@ -66,7 +69,8 @@ kept_again t y h e act to m a k = record {
   posting = k.posting;
   making = making_stage (Sending e act to m a) (Acting e act) h h.seen refl k.making;
   showing = showing_stage t (Sending e act to m a) (Acting e act) h refl tt k.showing;
-  ending = ending_stage t y (Sending e act to m a) (Acting e act) h refl tt k.ending }
+  ending = ending_stage t y (Sending e act to m a) (Acting e act) h refl tt k.ending;
+}
 
 kept_hear : (t : Terms) (y : ActorId) (c : ℕ) (h : Hand) (from : ActorId) (e : Event) (act : Act) → for_hand y e ≡ e ∷ [] → Kept t y Idle h → Kept t y (Acting e act) (hear t c h from e act)
 kept_hear t y c h from e act mine k = record {
@@ -74,7 +78,8 @@ kept_hear t y c h from e act mine k = record {
   posting = λ w r. posting_hear t w c h from e act (k.posting w r);
   making = making_hear t c h from e act k.making;
   showing = showing_hear t c h from e act k.showing;
-  ending = ending_hear t y c h from e act k.ending }
+  ending = ending_hear t y c h from e act k.ending;
+}
 
 kept_skip : (t : Terms) (y : ActorId) (h : Hand) (from : ActorId) (m : Message) → heard_in y m ≡ [] → Kept t y Idle h → Kept t y Idle (skip h from m)
 kept_skip t y h from m none k = record {
@@ -82,7 +87,8 @@ kept_skip t y h from m none k = record {
   posting = λ w r. posting_skip w h from m (k.posting w r);
   making = making_skip Idle h from m k.making;
   showing = showing_skip t Idle h from m k.showing;
-  ending = ending_skip t y h from m k.ending }
+  ending = ending_skip t y h from m k.ending;
+}
 
 kept_over : (t : Terms) (y : ActorId) (h : Hand) (e : Event) → last_words t y e ≡ [] → Kept t y (Acting e Done) h → Kept t y Idle h
 kept_over t y h e none k = record {
@@ -90,7 +96,8 @@ kept_over t y h e none k = record {
   posting = k.posting;
   making = making_over t y h e Done k.speaks.mine.0 none k.making;
   showing = showing_over t (Acting e Done) h k.showing;
-  ending = ending_stage t y (Acting e Done) Idle h refl tt k.ending }
+  ending = ending_stage t y (Acting e Done) Idle h refl tt k.ending;
+}
 
 kept_leave : (t : Terms) (y : ActorId) (h : Hand) (e : Event) (to : ActorId) (m : Message) → last_words t y e ≡ (to, m) ∷ [] → Kept t y (Acting e Done) h → Kept t y (Leaving e to m) h
 kept_leave t y h e to m q k = record {
@@ -98,7 +105,8 @@ kept_leave t y h e to m q k = record {
   posting = k.posting;
   making = making_stage (Acting e Done) (Leaving e to m) h h.seen refl k.making;
   showing = showing_stage t (Acting e Done) (Leaving e to m) h refl tt k.showing;
-  ending = ending_stage t y (Acting e Done) (Leaving e to m) h refl tt k.ending }
+  ending = ending_stage t y (Acting e Done) (Leaving e to m) h refl tt k.ending;
+}
 
 words_quiet : (t : Terms) (y : ActorId) (h : Hand) (w : ℕ) (e : Event) (to : ActorId) (m : Message) → last_words t y e ≡ (to, m) ∷ [] → (task_in w m ≡ []) × ((no_more m ≡ []) × Asks h.log m)
 words_quiet t y h w e to m q = words_are (λ (p : ActorId × Message). (task_in w p.1 ≡ []) × ((no_more p.1 ≡ []) × Asks h.log p.1)) (λ n s. (refl, (refl, tt))) (λ v id. (refl, (refl, tt))) t y e to m q
@@ -109,10 +117,12 @@ kept_left t y h e to m hand there k = record {
   posting = λ w r. posting_own w h to m (own_of h) (posting_settle w h to m (words_quiet t y h w e to m k.speaks.carries).0 (k.posting w r));
   making = making_left t y h e to m k.speaks.mine.0 k.speaks.carries k.making;
   showing = showing_left t h e to m (words_quiet t y h 0 e to m k.speaks.carries).1.1 k.showing;
-  ending = ending_left t y h e to m (words_quiet t y h 0 e to m k.speaks.carries).1.0 k.ending }
+  ending = ending_left t y h e to m (words_quiet t y h 0 e to m k.speaks.carries).1.0 k.ending;
+}
   where
     own_of : Hand → ℕ → Option ℕ
     own_of x = (left_event t x e to m).own
+
     posting_own : (w : ℕ) (x : Hand) (v : ActorId) (n : Message) (own : ℕ → Option ℕ) → Posting w (settle x v n) → Posting w (record (settle x v n) { own = own })
     posting_own w x v n own p = record { logged = p.logged; mail = p.mail; overs = p.overs }
 
@@ -122,7 +132,8 @@ kept_stop t y h lt s k = record {
   posting = k.posting;
   making = making_stage Idle (Stopping 0) h h.seen refl k.making;
   showing = showing_stage t Idle (Stopping 0) h refl tt k.showing;
-  ending = ending_stop t y h s k.ending }
+  ending = ending_stop t y h s k.ending;
+}
 
 kept_none : (t : Terms) (y : ActorId) (h : Hand) → goodbyes t y ≡ 0 → MayStop t y h → Kept t y Idle h → Kept t y Stopped h
 kept_none t y h q s k = record {
@@ -130,7 +141,8 @@ kept_none t y h q s k = record {
   posting = k.posting;
   making = making_stage Idle Stopped h h.seen refl k.making;
   showing = showing_stage t Idle Stopped h refl tt k.showing;
-  ending = ending_none t y h q s k.ending }
+  ending = ending_none t y h q s k.ending;
+}
 
 kept_next : (t : Terms) (y : ActorId) (h : Hand) (j : ℕ) → IsHand t y → IsPresent t (goodbye t j) → suc j < goodbyes t y → Kept t y (Stopping j) h → Kept t y (Stopping (suc j)) (settle h (goodbye t j) NoMore)
 kept_next t y h j hand there lt k = record {
@@ -138,7 +150,8 @@ kept_next t y h j hand there lt k = record {
   posting = λ w r. posting_settle w h (goodbye t j) NoMore refl (k.posting w r);
   making = making_stage (Stopping j) (Stopping (suc j)) (settle h (goodbye t j) NoMore) h.seen refl (making_ended (Stopping j) t h j k.making);
   showing = showing_stage t (Stopping j) (Stopping (suc j)) (settle h (goodbye t j) NoMore) refl tt (showing_settle t (Stopping j) h (goodbye t j) NoMore tt k.showing);
-  ending = ending_next t y h j k.ending }
+  ending = ending_next t y h j k.ending;
+}
 
 kept_last : (t : Terms) (y : ActorId) (h : Hand) (j : ℕ) → IsHand t y → IsPresent t (goodbye t j) → suc j ≡ goodbyes t y → Kept t y (Stopping j) h → Kept t y Stopped (settle h (goodbye t j) NoMore)
 kept_last t y h j hand there q k = record {
@@ -146,7 +159,8 @@ kept_last t y h j hand there q k = record {
   posting = λ w r. posting_settle w h (goodbye t j) NoMore refl (k.posting w r);
   making = making_stage (Stopping j) Stopped (settle h (goodbye t j) NoMore) h.seen refl (making_ended (Stopping j) t h j k.making);
   showing = showing_stage t (Stopping j) Stopped (settle h (goodbye t j) NoMore) refl tt (showing_settle t (Stopping j) h (goodbye t j) NoMore tt k.showing);
-  ending = ending_last t y h j q k.ending }
+  ending = ending_last t y h j q k.ending;
+}
 
 -- an answer at once
 went_once : (t : Terms) (y : ActorId) (h : Hand) (e : Event) (act : Act) (after : Seen) (a : Answer) (next : Act) → MayFollow act (AnswerGiven a) → silent a ≡ true → Noted t h.log h.seen act a after → Kept t y (Acting e act) h → Went t y (at_once (record h { seen = after }) e a next)
@@ -242,6 +256,7 @@ went_call t y h e c p (x ∷ xs) k = called p.called
     refused NotInt = went_once t y h e (Table c) h.seen (TableRefused NotInt) p.act tt refl (record { passes = refl; bounds = refl; others = refl; seat = refl; sums = refl; fulls = refl; stops = refl; busy = refl; spents = refl; lives = prefix_refl h.seen.lives; infos = prefix_refl h.seen.infos; finds = tt; grants = tt }) k
     refused BadValue = went_once t y h e (Table c) h.seen (TableRefused BadValue) p.act tt refl (record { passes = refl; bounds = refl; others = refl; seat = refl; sums = refl; fulls = refl; stops = refl; busy = refl; spents = refl; lives = prefix_refl h.seen.lives; infos = prefix_refl h.seen.infos; finds = tt; grants = tt }) k
     refused Range = went_once t y h e (Table c) h.seen (TableRefused Range) p.act tt refl (record { passes = refl; bounds = refl; others = refl; seat = refl; sums = refl; fulls = refl; stops = refl; busy = refl; spents = refl; lives = prefix_refl h.seen.lives; infos = prefix_refl h.seen.infos; finds = tt; grants = tt }) k
+
     called : (r : Result Placed CallFault) → Went t y (call_seen h e c p.cells p.act r)
     called (Ok q) = went_once t y h e (Table c) (record h.seen { seat = h.seen.seat ++ (q.at, (c, (q.reply, p.cells))) ∷ [] }) (TableIs q.at q.reply p.cells) p.act tt refl (record { passes = refl; bounds = refl; others = refl; seat = refl; sums = refl; fulls = refl; stops = refl; busy = refl; spents = refl; lives = prefix_refl h.seen.lives; infos = prefix_refl h.seen.infos; finds = tt; grants = tt }) k
     called (Err f) = refused f

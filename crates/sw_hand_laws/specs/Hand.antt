@@ -171,14 +171,16 @@ hear t c h from e act = record h {
   gone = if is_due c h then h.gone ++ h.current ∷ [] else h.gone;
   current = if is_due c h then (EventGiven e, act) ∷ [] else h.current ++ (EventGiven e, act) ∷ [];
   events = if is_due c h then 1 else h.events + 1;
-  left = if is_due c h then h.left - 1 else h.left }
+  left = if is_due c h then h.left - 1 else h.left;
+}
 
 -- another message is counted
 abbrev pub skip : Hand → ActorId → Message → Hand
 skip h from m = record h {
   took = h.took ++ (from, m) ∷ [];
   out = h.out - length (over_in m);
-  ended = h.ended + length (no_more m) }
+  ended = h.ended + length (no_more m);
+}
 
 -- a message that was pushed is settled
 abbrev pub settle : Hand → ActorId → Message → Hand
@@ -192,7 +194,8 @@ answered h to m a act = record h {
   next = next_with h.next a;
   out = next_with h.out a;
   words = words_with h.words a;
-  current = h.current ++ (AnswerGiven a, act) ∷ [] }
+  current = h.current ++ (AnswerGiven a, act) ∷ [];
+}
 
 -- the last word of an event was pushed, and a session that closed is the hand's own no longer
 abbrev pub left_event : Terms → Hand → Event → ActorId → Message → Hand

@@ -4,9 +4,8 @@ use Rattle.sw_lists.specs.Lists.{Each}
 use Rattle.sw_step.specs.declared.actor.ActorId.{ActorId}
 use Rattle.sw_column.specs.Fit.{call_fault}
 use Rattle.sw_port_book.specs.declared.answers.BindFault.{BindFault}
-use Rattle.sw_port_book.specs.declared.answers.BindFault.TheVariants as fault
 use Rattle.sw_port_shelf.specs.Shelf.{AnswersFit}
-use Rattle.sw_record.specs.Words.{Event, Act, TaskAct, Stats, Done, Answer, TaskFull, Count, AnswerGiven, Bind, Counter, Dst, Table}
+use Rattle.sw_record.specs.Words.{Event, Act, TaskAct, Stats, Done, Answer, TaskFull, AnswerGiven, Bind, Dst, Table}
 use Rattle.sw_record.specs.Terms.{Terms}
 use Rattle.sw_record.specs.Dialogue.{MayFollow}
 use Rattle.sw_record.specs.Fits.{Fits}
@@ -17,6 +16,7 @@ use Rattle.sw_past.specs.Said.{last_after}
 use Rattle.sw_past.specs.Routes.{is_worker}
 use Rattle.sw_hand_laws.specs.Hand.{Stage, Idle, Acting, Sending, Leaving, Stopping, Stopped, Hand, Seen, Ports, last_words, goodbye, say, hear, skip, settle, answered, left_event}
 use Rattle.sw_hand_laws.specs.Keeps.{IsPresent, Carried, silent, act_of, now}
+use Rattle.sw_port_book.specs.declared.answers.BindFault.TheVariants as fault
 
 -- a task goes to a task worker that is there
 abbrev pub AimFits : Terms → Act → ActorId → Type 0
@@ -28,11 +28,6 @@ abbrev pub IdleFits : Terms → Option ℕ → Type 0
 IdleFits t None = Unit {0}
 IdleFits t (Some k) = k < t.tasker_num
 
--- what the board's sum keeps
-abbrev pub Sums : (Counter → ℕ) → Act → Answer → Type 0
-Sums words (Stats n) (Count k) = (words n ≤ k) × (k ≤ greatest)
-Sums words _ _ = Unit {0}
-
 -- what a bind may answer: a refusal of the uid exactly where it is 0
 abbrev pub BindFits : ℕ → Result (Unit {0}) BindFault → Type 0
 BindFits u (Ok v) = ¬ (u ≡ 0)
@@ -40,19 +35,23 @@ BindFits u (Err fault.BadUid) = u ≡ 0
 BindFits u (Err (fault.Other n)) = ¬ (u ≡ 0)
 BindFits u (Err (fault.Bound v)) = ¬ (u ≡ 0)
 
--- what the ports may answer to the act at hand: a bind by its uid, a search for an idle task worker one that is there, the
--- Table by its columns, and a sum at least this hand's own word
+-- what the ports may answer to the act at hand: a bind by its uid, a search for an idle task worker one that is there, and
+-- the Table by its columns
 abbrev pub PortsFit : Terms → Stage → Hand → Ports → Type 0
 PortsFit t (Acting e (Bind s u)) h p = BindFits u p.binding
 PortsFit t (Acting e (TaskAct d b)) h p = IdleFits t p.idle
 PortsFit t (Acting e (Table c)) h p = AnswersFit (call_fault t.columns c) p.called
-PortsFit t (Acting e (Stats n)) h p = (h.words n ≤ p.sum) × (p.sum ≤ greatest)
 PortsFit t _ h p = Unit {0}
+
+-- a sum is at least this hand's own word
+abbrev pub SumFits : Stage → Hand → Ports → Type 0
+SumFits (Acting e (Stats n)) h p = (h.words n ≤ p.sum) × (p.sum ≤ greatest)
+SumFits _ h p = Unit {0}
 
 -- the kinds of moves
 pub data Moved (t : Terms) (y : ActorId) (c : ℕ) : Stage → Hand → Stage → Hand → Type 0 where
   Waits : (st : Stage) (h : Hand) → Moved t y c st h st h
-  Answers : (h : Hand) (e : Event) (act : Act) (after : Seen) (a : Answer) (next : Act) → MayFollow act (AnswerGiven a) → silent a ≡ true → Fits t (is_worker y) h.own h.next e act a → Sums h.words act a → Moved t y c (Acting e act) h (Acting e next) (say (record h { seen = after }) (AnswerGiven a) next)
+  Answers : (h : Hand) (e : Event) (act : Act) (after : Seen) (a : Answer) (next : Act) → MayFollow act (AnswerGiven a) → silent a ≡ true → Fits t (is_worker y) h.own h.next e act a → Moved t y c (Acting e act) h (Acting e next) (say (record h { seen = after }) (AnswerGiven a) next)
   Aims : (h : Hand) (e : Event) (act : Act) (after : Seen) (to : ActorId) (m : Message) (a : Answer) → Carried t y h.next e act to m a → Fits t (is_worker y) h.own h.next e act a → AimFits t act to → Moved t y c (Acting e act) h (Sending e act to m a) (record h { seen = after })
   Sends : (h : Hand) (e : Event) (act : Act) (to : ActorId) (m : Message) (a : Answer) (next : Act) → Moved t y c (Sending e act to m a) h (Acting e next) (answered h to m a next)
   Fulls : (h : Hand) (e : Event) (d : Dst) (b : List ℕ) (to : ActorId) (m : Message) (a : Answer) (after : Seen) (next : Act) → Moved t y c (Sending e (TaskAct d b) to m a) h (Acting e next) (say (record h { seen = after }) (AnswerGiven TaskFull) next)
