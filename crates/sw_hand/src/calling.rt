@@ -73,7 +73,8 @@ impl<H: Handler> Hand<H> {
         fault: CallFault,
     ) -> Ask<Msg<L, K>>
         requires { IsHand self.old }
-        ensures refused { CallsRefused (is_busy fault) H.acts C.goes fault self.old board.old current call self.new board.new result }
+        ensures refused { CallsRefused (is_busy fault) H.acts C.goes fault
+            self.old board.old current call self.new board.new result }
         ensures kept { IsHand self.new }
         ensures stays { Stays H.made self.old self.new }
         ensures sizes { C.sizes board.new ≡ C.sizes board.old }
@@ -132,7 +133,8 @@ impl<H: Handler> Hand<H> {
     ) -> Ask<Msg<L, K>>
         requires hand { IsHand self.old }
         requires row { HasRow (S.columns shelf.old) self.old.house self.old.row }
-        ensures calls { Calls S.call_gives H.acts C.goes self.old shelf.old board.old current call self.new shelf.new board.new result }
+        ensures calls { Calls S.call_gives H.acts C.goes
+            self.old shelf.old board.old current call self.new shelf.new board.new result }
         ensures kept { IsHand self.new }
         ensures lasts { Lasts H.made self.old self.new }
         ensures row { HasRow (S.columns shelf.new) self.new.house self.new.row }

@@ -86,7 +86,8 @@ impl<H: Handler> Hand<H> {
     ) -> Ask<Msg<L, K>>
         requires hand { IsHand self.old }
         requires id { HasId self.old.next errand }
-        ensures reaches { Reaches B.look_finds H.acts C.goes self.old book.old board.old current session errand message self.new book.new board.new result }
+        ensures reaches { Reaches B.look_finds H.acts C.goes
+            self.old book.old board.old current session errand message self.new book.new board.new result }
         ensures kept { IsHand self.new }
         ensures stays { Stays H.made self.old self.new }
         ensures book { Keeps B.size B.holds book.old book.new }
@@ -112,7 +113,8 @@ impl<H: Handler> Hand<H> {
         session: Session,
     ) -> Ask<Msg<L, K>>
         requires { IsHand self.old }
-        ensures tells { TellsExist B.look_finds H.acts C.goes self.old book.old board.old current session self.new book.new board.new result }
+        ensures tells { TellsExist B.look_finds H.acts C.goes
+            self.old book.old board.old current session self.new book.new board.new result }
         ensures kept { IsHand self.new }
         ensures stays { Stays H.made self.old self.new }
         ensures book { Keeps B.size B.holds book.old book.new }
@@ -137,7 +139,8 @@ impl<H: Handler> Hand<H> {
         session: Session,
     ) -> Ask<Msg<L, K>>
         requires { IsHand self.old }
-        ensures tells { TellsInfo B.look_finds H.acts C.goes self.old book.old board.old current session self.new book.new board.new result }
+        ensures tells { TellsInfo B.look_finds H.acts C.goes
+            self.old book.old board.old current session self.new book.new board.new result }
         ensures kept { IsHand self.new }
         ensures stays { Stays H.made self.old self.new }
         ensures book { Keeps B.size B.holds book.old book.new }
@@ -167,7 +170,8 @@ impl<H: Handler> Hand<H> {
         uid: u32,
     ) -> Ask<Msg<L, K>>
         requires { IsHand self.old }
-        ensures binds { BindsOf B.bind_finds H.acts C.goes self.old book.old board.old current session uid self.new book.new board.new result }
+        ensures binds { BindsOf B.bind_finds H.acts C.goes
+            self.old book.old board.old current session uid self.new book.new board.new result }
         ensures kept { IsHand self.new }
         ensures stays { Stays H.made self.old self.new }
         ensures book { Keeps B.size B.holds book.old book.new }

@@ -69,7 +69,8 @@ impl<H> Hand<H> {
     /// One more NoMore came.
     fn take_end(&mut self)
         requires { IsHand self.old }
-        ensures more { self.new ≡ record self.old { ended = ended_more (enders self.old.house self.old.kind) self.old.ended } }
+        ensures more { self.new ≡ record
+            self.old { ended = ended_more (enders self.old.house self.old.kind) self.old.ended } }
         ensures same { Same self.old self.new }
         ensures kept { IsHand self.new }
     {

@@ -29,7 +29,8 @@ impl<H: Handler> Hand<H> {
         requires hand { IsHand self.old }
         requires crew { IsCrew self.old.house (C.sizes board.old) }
         requires row { HasRow (S.columns shelf.old) self.old.house self.old.row }
-        ensures makes { Makes B.look_finds B.bind_finds S.call_gives H.acts C.goes C.sizes self.old book.old shelf.old board.old current act self.new book.new shelf.new board.new result }
+        ensures makes { Makes B.look_finds B.bind_finds S.call_gives H.acts C.goes C.sizes
+            self.old book.old shelf.old board.old current act self.new book.new shelf.new board.new result }
         ensures kept { IsHand self.new }
         ensures lasts { Lasts H.made self.old self.new }
         ensures book { Keeps B.size B.holds book.old book.new }
@@ -73,7 +74,8 @@ impl<H: Handler> Hand<H> {
         requires hand { IsHand self.old }
         requires crew { IsCrew self.old.house (C.sizes board.old) }
         requires row { HasRow (S.columns shelf.old) self.old.house self.old.row }
-        ensures turns { Turns B.look_finds B.bind_finds S.call_gives H.acts C.goes C.sizes self.old book.old shelf.old board.old got self.new book.new shelf.new board.new result }
+        ensures turns { Turns B.look_finds B.bind_finds S.call_gives H.acts C.goes C.sizes
+            self.old book.old shelf.old board.old got self.new book.new shelf.new board.new result }
         ensures kept { IsHand self.new }
         ensures lasts { Lasts H.made self.old self.new }
         ensures book { Keeps B.size B.holds book.old book.new }

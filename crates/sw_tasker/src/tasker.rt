@@ -82,8 +82,8 @@ impl<T: Drop> Tasker<T> {
 impl<T: Handler> Tasker<T> {
     ghost use Rattle.std.specs.Prelude.{◌≡◌};
     ghost use Rattle.sw_port_book.specs.Answers.{Keeps};
-    ghost use Rattle.sw_hand.specs.Hand.{IsCrew, HasRow, Stays};
-    ghost use Rattle.sw_hand.specs.Turn.{Turns};
+    ghost use Rattle.sw_hand.specs.Hand.{IsCrew, HasRow, Lasts};
+    ghost use Rattle.sw_hand_calls.specs.Calls.{rules_of, TurnsBy};
 
     /// One turn: by what the last pipe call gave, it asks for the next one. It waits for nobody. Where the handler or an answer
     /// finds no memory, the task worker is lost and goes on as with a handler that is always `Done`.
@@ -97,9 +97,9 @@ impl<T: Handler> Tasker<T> {
     ) -> Ask<Msg<L, K>>
         requires crew { IsCrew self.old.house (C.sizes board.old) }
         requires row { HasRow (S.columns shelf.old) self.old.house self.old.row }
-        ensures turns { Turns B.look_finds B.bind_finds S.call_gives T.acts C.goes C.sizes
+        ensures turns { TurnsBy (rules_of B.look_finds B.bind_finds S.call_gives T.acts C.goes C.sizes)
             self.old book.old shelf.old board.old got self.new book.new shelf.new board.new result }
-        ensures stays { Stays T.made self.old self.new }
+        ensures lasts { Lasts T.made self.old self.new }
         ensures book { Keeps B.size B.holds book.old book.new }
         ensures row { HasRow (S.columns shelf.new) self.new.house self.new.row }
         ensures columns { S.columns shelf.new ≡ S.columns shelf.old }

@@ -116,8 +116,9 @@ impl<H: Drop> Worker<H> {
 impl<H: Handler> Worker<H> {
     ghost use Rattle.std.specs.Prelude.{◌≡◌, map};
     ghost use Rattle.sw_port_book.specs.Answers.{Keeps};
-    ghost use Rattle.sw_hand.specs.Hand.{IsCrew, HasRow, Stays};
+    ghost use Rattle.sw_hand.specs.Hand.{IsCrew, HasRow, Lasts};
     ghost use Rattle.sw_worker.specs.Generations.{made};
+    ghost use Rattle.sw_hand_calls.specs.Calls.{rules_of};
     ghost use Rattle.sw_worker.specs.Worker.{WorkerTurns};
 
     /// One turn: by what the last pipe call gave, it asks for the next one. It waits for nobody. Where a handler or an answer
@@ -132,9 +133,9 @@ impl<H: Handler> Worker<H> {
     ) -> Ask<Msg<L, K>>
         requires crew { IsCrew self.old.house (C.sizes board.old) }
         requires row { HasRow (S.columns shelf.old) self.old.house self.old.row }
-        ensures turns { WorkerTurns B.look_finds B.bind_finds S.call_gives H.acts C.goes C.sizes
+        ensures turns { WorkerTurns (rules_of B.look_finds B.bind_finds S.call_gives H.acts C.goes C.sizes)
             self.old book.old shelf.old board.old got self.new book.new shelf.new board.new result }
-        ensures stays { Stays (made H.made) self.old self.new }
+        ensures lasts { Lasts (made H.made) self.old self.new }
         ensures book { Keeps B.size B.holds book.old book.new }
         ensures row { HasRow (S.columns shelf.new) self.new.house self.new.row }
         ensures columns { S.columns shelf.new ≡ S.columns shelf.old }

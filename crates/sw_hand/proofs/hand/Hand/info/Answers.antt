@@ -1,5 +1,5 @@
 -- What is known of a session is the handler's answer.
-use Rattle.std.proofs.Common.{◌≡◌, Bool, true, false, refl, sym, ◌∙◌}
+use Rattle.std.proofs.Common.{◌≡◌, true, false, refl, sym, ◌∙◌}
 use Rattle.sw_port_book.specs.declared.answers.Look.TheVariants.{Live}
 use Rattle.sw_hand.specs.Reaching.{info_known}
 use Rattle.sw_hand.proofs.hand.Hand.info.Goals as goal
