@@ -1,25 +1,23 @@
 -- What is kept as a hand hears, answers and asks.
-use Rattle.std.proofs.Common.{◌≡◌, ◌⊎◌, ℕ, zero, suc, ◌<◌, ◌≤◌, ◌%◌, ◌==◌, Bool, true, false, if◌then◌else◌, ◌||◌, List, [], refl, ap, ◌∙◌, sym, subst, Option, Some, None, Result, Ok, Err, inl, inr, arith, min, slice_index_or}
+use Rattle.std.proofs.Common.{◌≡◌, ◌⊎◌, ℕ, zero, suc, ◌<◌, ◌≤◌, ◌%◌, ◌==◌, Bool, true, false, if◌then◌else◌, ◌||◌, List, [], refl, ap, ◌∙◌, sym, subst, Option, None, Err, inl, inr, arith, min, slice_index_or}
 use Rattle.std.proofs.lemmas.Nat.{mod_below}
-use Rattle.sw_lists.proofs.Lists.{eq_same, eq_other}
+use Rattle.sw_lists.proofs.Lists.{eq_other}
 use Rattle.sw_step.specs.declared.actor.ActorId.{ActorId}
-use Rattle.sw_step.specs.declared.actor.ActorId.TheVariants as actors
 use Rattle.sw_base.specs.declared.table.CallFault.TheVariants.{BadKey}
 use Rattle.sw_base.specs.declared.table.Value.{Value}
 use Rattle.sw_data.specs.declared.messages.Msg.{Msg}
 use Rattle.sw_data.specs.declared.messages.Target.{Target}
-use Rattle.sw_data.specs.declared.messages.Target.TheVariants as targets
 use Rattle.sw_data.specs.declared.messages.Ask.{Ask as CodeAsk}
 use Rattle.sw_data.specs.declared.messages.Ask.TheVariants as asks
 use Rattle.sw_port_book.specs.declared.answers.Look.TheVariants.{Live}
 use Rattle.sw_port_book.specs.declared.answers.BindFault.TheVariants as fault
-use Rattle.sw_record.specs.Words.{Event, Connect, Packet, Closed, Finish, Task, Act, Done, Answer, Given, AnswerGiven}
+use Rattle.sw_record.specs.Words.{Event, Connect, Packet, Closed, Finish, Task, Act, Answer, Given, AnswerGiven}
 use Rattle.sw_record.specs.Terms.{Terms, keeps, reactor_of}
 use Rattle.sw_record.specs.Fits.{is_some, is_of, is_own}
 use Rattle.sw_past.specs.Messages.{Message, message_of}
 use Rattle.sw_hand.specs.Ports.{Acting as Handling, Going}
 use Rattle.sw_hand.specs.Stage.{current_of, is_of as code_is_of, answer_of}
-use Rattle.sw_hand.specs.House.{keeps as code_keeps, fd_of, reactor_of as code_reactor_of, enders}
+use Rattle.sw_hand.specs.House.{keeps as code_keeps, fd_of, reactor_of as code_reactor_of}
 use Rattle.sw_hand.specs.Hand.{is_own as code_is_own}
 use Rattle.sw_hand.specs.Hearing.{Hears, HearsAs, AtOnce}
 use Rattle.sw_hand.specs.Asking.{Asks, Answers}
@@ -29,8 +27,8 @@ use Rattle.sw_hand.specs.declared.stage.Current.{Current}
 use Rattle.sw_hand.specs.declared.stage.Errand.{Errand}
 use Rattle.sw_hand.specs.declared.stage.Stage.{Stage as CodeStage}
 use Rattle.sw_hand.specs.declared.stage.Stage.TheVariants as stages
-use Rattle.sw_hand_laws.specs.Hand.{Ports, Stage, Acting, Sending, Hand, Turned, Push, at_once, asked}
-use Rattle.sw_hand_fits.specs.Matches.{HouseFits, own_of, Matches, receiver_of, IsErrand, StageFits, BothActing, BothSending, ask_of, Came, Went}
+use Rattle.sw_hand_laws.specs.Hand.{Ports, Acting, Sending, Hand, Push, at_once, asked}
+use Rattle.sw_hand_fits.specs.Matches.{HouseFits, own_of, Matches, receiver_of, IsErrand, StageFits, BothActing, BothSending, ask_of, Came}
 
 -- the ports' answers of a turn that asks none of them
 abbrev pub plain : Act → Ports

@@ -1,5 +1,5 @@
 -- Calls of the Table, sums and the server's end come to what the tables say.
-use Rattle.std.proofs.Common.{◌≡◌, ◌⊎◌, ℕ, Bool, true, false, List, [], ◌∷◌, refl, ap, ◌∙◌, sym, subst, Result, Ok, Err, Option, Some, None, inl, inr}
+use Rattle.std.proofs.Common.{◌≡◌, ℕ, List, [], ◌∷◌, refl, ap, subst, Result, Ok, Err, Option, Some, None, inl, inr}
 use Rattle.sw_step.specs.declared.actor.ActorId.{ActorId}
 use Rattle.sw_base.specs.declared.table.Call.{Call}
 use Rattle.sw_base.specs.declared.table.CallFault.{CallFault}
@@ -12,18 +12,16 @@ use Rattle.sw_data.specs.declared.messages.Ask.{Ask as CodeAsk}
 use Rattle.sw_port_board.specs.declared.crew.Sizes.{Sizes}
 use Rattle.sw_port_shelf.specs.Shelf.{AnswersFit}
 use Rattle.sw_port_shelf.specs.declared.shelf.Placed.{Placed}
-use Rattle.sw_record.specs.Words.{Event, Act, Table, Stats, Shutdown, Done, Counter, Answer, TableIs, TableRefused, NoTable, Count, Asked}
+use Rattle.sw_record.specs.Words.{Event, Table, Stats, Shutdown, Done, Counter, TableIs, TableRefused, NoTable, Count, Asked}
 use Rattle.sw_record.specs.Terms.{Terms}
 use Rattle.sw_hand.specs.Ports.{Acting as Handling, Going, Calling}
 use Rattle.sw_hand.specs.Stage.{current_of}
-use Rattle.sw_hand.specs.Asking.{Answers}
-use Rattle.sw_hand.specs.Calling.{is_busy, CallsRefused, Starves, cells_of, CallsPlaced, CallsSeen, CallsAs, Calls, Sums, Shuts}
+use Rattle.sw_hand.specs.Calling.{is_busy, CallsRefused, cells_of, CallsSeen, CallsAs, Calls, Sums, Shuts}
 use Rattle.sw_hand.specs.declared.hand.Hand.{Hand as CodeHand}
 use Rattle.sw_hand.specs.declared.stage.Current.{Current}
 use Rattle.sw_hand.specs.declared.stage.Stage.TheVariants as stages
-use Rattle.sw_hand_laws.specs.Hand.{Ports, Acting, Hand, Turned, place_too, spent_too, sum_too, stop_too, at_once, call_refused, call_seen, call}
-use Rattle.sw_hand_laws.specs.Moved.{PortsFit}
-use Rattle.sw_hand_fits.specs.Matches.{is_some_table, Matches, ask_of, CallsMay, Came, Went}
+use Rattle.sw_hand_laws.specs.Hand.{Acting, Hand, place_too, spent_too, sum_too, stop_too, at_once, call}
+use Rattle.sw_hand_fits.specs.Matches.{is_some_table, Matches, ask_of, CallsMay, Went}
 use Rattle.sw_hand_fits.proofs.Basics.{plain, stays, acting_fits, answers}
 
 -- the row's buffer beside

@@ -1,18 +1,15 @@
 -- The end of an event and of a hand come to what the tables say.
-use Rattle.std.proofs.Common.{◌≡◌, ◌⊎◌, ℕ, zero, suc, ◌<◌, ◌≤◌, ◌+◌, ◌-◌, ◌%◌, ◌==◌, ltb, leb, min, nat_lt, Bool, true, false, if◌then◌else◌, List, [], ◌∷◌, length, refl, ap, ◌∙◌, sym, subst, Option, Some, None, inl, inr, arith, slice_index_or, slice_set}
-use Rattle.std.proofs.lemmas.Bool.{cases_lt, lt-ltb, le-leb, lt-leb}
-use Rattle.sw_lists.proofs.Lists.{eq_same, eq_is}
+use Rattle.std.proofs.Common.{◌≡◌, ℕ, ◌+◌, ◌-◌, ◌==◌, ltb, leb, min, Bool, true, false, if◌then◌else◌, List, [], ◌∷◌, refl, ap, ◌∙◌, sym, subst, Option, Some, None, inl, inr, arith}
+use Rattle.std.proofs.lemmas.Bool.{cases_lt, le-leb}
 use Rattle.sw_step.specs.declared.actor.ActorId.{ActorId}
 use Rattle.sw_step.specs.declared.actor.ActorId.TheVariants as actors
 use Rattle.sw_data.specs.declared.messages.Msg.{Msg}
-use Rattle.sw_data.specs.declared.messages.Msg.TheVariants as msgs
 use Rattle.sw_data.specs.declared.messages.Target.{Target}
 use Rattle.sw_data.specs.declared.messages.Target.TheVariants as targets
 use Rattle.sw_data.specs.declared.messages.Ask.{Ask as CodeAsk}
-use Rattle.sw_data.specs.declared.messages.Ask.TheVariants as asks
-use Rattle.sw_record.specs.Words.{Event, Connect, Packet, Closed, Finish, Task, Act, Done}
-use Rattle.sw_record.specs.Terms.{Terms, keeps, reactor_of}
-use Rattle.sw_past.specs.Messages.{Message, Bye, OverMsg, NoMore, message_of}
+use Rattle.sw_record.specs.Words.{Event, Connect, Packet, Closed, Finish, Task, Done}
+use Rattle.sw_record.specs.Terms.{Terms, keeps}
+use Rattle.sw_past.specs.Messages.{Message, NoMore, message_of}
 use Rattle.sw_hand.specs.Stage.{current_of}
 use Rattle.sw_hand.specs.House.{enders as code_enders, farewells, farewell}
 use Rattle.sw_hand.specs.Leaving.{bye_of as code_bye_of, last_words as code_last_words, EndsAs, Ends, StopsAs, StopsAt, may_stop as code_may_stop, GoesAs, GoesOn}
@@ -23,7 +20,7 @@ use Rattle.sw_hand.specs.declared.house.Kind.TheVariants as kinds
 use Rattle.sw_hand.specs.declared.stage.Current.{Current}
 use Rattle.sw_hand.specs.declared.stage.Stage.{Stage as CodeStage}
 use Rattle.sw_hand.specs.declared.stage.Stage.TheVariants as stages
-use Rattle.sw_hand_laws.specs.Hand.{Push, Ports, Stage, Idle, Acting, Leaving, Stopping, Stopped, Hand, Turned, bye_to, last_words, goodbye, goodbyes, enders, done, stop_if, stop_at, go_if, may_stop, go_on}
+use Rattle.sw_hand_laws.specs.Hand.{Push, Idle, Acting, Leaving, Stopping, Stopped, Hand, bye_to, last_words, goodbye, goodbyes, enders, done, stop_if, stop_at, go_if, may_stop, go_on}
 use Rattle.sw_hand_fits.specs.Matches.{actor_of, receiver_of, HouseFits, Matches, StageFits, BothIdle, BothLeaving, BothStopping, BothOver, ask_of, Came, Went}
 use Rattle.sw_hand_fits.proofs.Basics.{plain, min_low, min_high, stays, keeps_same, reactor_same}
 

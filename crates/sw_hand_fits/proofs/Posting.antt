@@ -1,5 +1,5 @@
 -- Tasks and finishes come to what the tables say.
-use Rattle.std.proofs.Common.{◌≡◌, ◌⊎◌, ℕ, suc, ◌<◌, ◌+◌, ◌-◌, ◌%◌, ◌^◌, ◌==◌, nat_lt, ltb, Bool, true, false, if◌then◌else◌, List, refl, ap, ◌∙◌, sym, subst, Option, Some, None, inl, inr, arith}
+use Rattle.std.proofs.Common.{◌≡◌, ℕ, ◌<◌, ◌+◌, ◌-◌, ◌%◌, ◌^◌, ◌==◌, ltb, Bool, true, false, if◌then◌else◌, List, refl, ap, ◌∙◌, sym, subst, Option, Some, None, inl, inr, arith}
 use Rattle.std.proofs.lemmas.Nat.{mod_below}
 use Rattle.sw_lists.proofs.Lists.{eq_same}
 use Rattle.sw_step.specs.declared.actor.ActorId.{ActorId}
@@ -12,14 +12,13 @@ use Rattle.sw_data.specs.declared.messages.Ask.{Ask as CodeAsk}
 use Rattle.sw_port_board.specs.Board.{FindsIdle}
 use Rattle.sw_port_board.specs.declared.crew.Crew.TheVariants.{Taskers}
 use Rattle.sw_port_board.specs.declared.crew.Sizes.{Sizes}
-use Rattle.sw_record.specs.Words.{Event, Connect, Packet, Closed, Finish, Task, Act, TaskAct, FinishAct, Done, Dst, Any, At, Answer, Posted, Finished, NotHere, NoTaskWorkers, BadTarget, IdsSpent}
+use Rattle.sw_record.specs.Words.{Event, Connect, Packet, Closed, Finish, Task, TaskAct, FinishAct, Done, Dst, Any, At, Answer, Posted, Finished, NotHere, NoTaskWorkers, BadTarget, IdsSpent}
 use Rattle.sw_record.specs.Terms.{Terms}
-use Rattle.sw_past.specs.Messages.{Message, EventMsg, message_of}
+use Rattle.sw_past.specs.Messages.{EventMsg}
 use Rattle.sw_hand.specs.Ports.{Acting as Handling, Going}
-use Rattle.sw_hand.specs.Stage.{current_of, answer_of}
+use Rattle.sw_hand.specs.Stage.{current_of}
 use Rattle.sw_hand.specs.House.{number_of}
 use Rattle.sw_hand.specs.Hand.{IsCrew}
-use Rattle.sw_hand.specs.Asking.{Answers, Asks}
 use Rattle.sw_hand.specs.Posting.{is_there as code_is_there, worker_refusal, post_refusal, FindsPlace, PostsAs, Posts, poster_of, FinishesAs, Finishes}
 use Rattle.sw_hand.specs.declared.hand.Hand.{Hand as CodeHand}
 use Rattle.sw_hand.specs.declared.house.House.{House}
@@ -28,8 +27,8 @@ use Rattle.sw_hand.specs.declared.house.Kind.TheVariants as kinds
 use Rattle.sw_hand.specs.declared.stage.Current.{Current}
 use Rattle.sw_hand.specs.declared.stage.Current.TheVariants as currents
 use Rattle.sw_hand.specs.declared.stage.Errand.TheVariants as errands
-use Rattle.sw_hand_laws.specs.Hand.{Ports, Acting, Hand, Turned, at_once, asked, tasker_at, is_there, post_fit, post_to, post_some, post, finish}
-use Rattle.sw_hand_laws.specs.Moved.{IdleFits, PortsFit}
+use Rattle.sw_hand_laws.specs.Hand.{Ports, Acting, Hand, tasker_at, is_there, post_fit, post_to, post_some, post, finish}
+use Rattle.sw_hand_laws.specs.Moved.{IdleFits}
 use Rattle.sw_hand_fits.specs.Matches.{actor_of, HouseFits, Matches, ForPost, ForFinish, Came, Went}
 use Rattle.sw_hand_fits.proofs.Basics.{plain, answers, asked_came}
 

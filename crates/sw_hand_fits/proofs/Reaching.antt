@@ -1,12 +1,11 @@
 -- Acts on a session come to what the tables say.
-use Rattle.std.proofs.Common.{◌≡◌, ◌⊎◌, ℕ, zero, suc, ◌<◌, ◌==◌, Bool, true, false, if◌then◌else◌, refl, ap, ◌∙◌, sym, subst, Result, Ok, Err, Option, inl, inr, arith, ◌%◌}
+use Rattle.std.proofs.Common.{◌≡◌, ℕ, zero, suc, ◌<◌, ◌==◌, Bool, true, false, if◌then◌else◌, refl, ap, ◌∙◌, sym, subst, Result, Ok, Err, Option, inl, inr, arith, ◌%◌}
 use Rattle.sw_step.specs.declared.actor.ActorId.{ActorId}
 use Rattle.sw_step.specs.declared.actor.ActorId.TheVariants as actors
 use Rattle.sw_data.specs.declared.messages.Msg.{Msg}
 use Rattle.sw_data.specs.declared.messages.Target.TheVariants as targets
 use Rattle.sw_data.specs.declared.messages.Ask.{Ask as CodeAsk}
-use Rattle.sw_port_book.specs.Answers.{Looks, Binds, bind_answer}
-use Rattle.sw_port_book.specs.declared.word.Word.{Word}
+use Rattle.sw_port_book.specs.Answers.{Binds}
 use Rattle.sw_port_book.specs.declared.answers.Look.{Look}
 use Rattle.sw_port_book.specs.declared.answers.Look.TheVariants.{Live, Other}
 use Rattle.sw_port_book.specs.declared.answers.BindFault.{BindFault}
@@ -23,9 +22,9 @@ use Rattle.sw_hand.specs.Asking.{Answers}
 use Rattle.sw_hand.specs.declared.hand.Hand.{Hand as CodeHand}
 use Rattle.sw_hand.specs.declared.stage.Current.{Current}
 use Rattle.sw_hand.specs.declared.stage.Errand.{Errand}
-use Rattle.sw_hand_laws.specs.Hand.{Ports, Acting, Hand, Turned, live_too, other_too, uid_too, pass_too, bound_too, reach, exist, info, bind}
+use Rattle.sw_hand_laws.specs.Hand.{Ports, Acting, Hand, live_too, other_too, uid_too, pass_too, bound_too, reach, exist, info, bind}
 use Rattle.sw_hand_laws.specs.Moved.{PortsFit, BindFits}
-use Rattle.sw_hand_fits.specs.Matches.{Matches, IsErrand, Came, Went}
+use Rattle.sw_hand_fits.specs.Matches.{Matches, IsErrand, Went}
 use Rattle.sw_hand_fits.proofs.Basics.{plain, answers, asked_came, own_same, reactor_same, fd_same}
 
 -- Send, Close and Reset

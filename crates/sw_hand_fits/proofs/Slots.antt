@@ -1,22 +1,20 @@
 -- The own sessions as slots.
-use Rattle.std.proofs.Common.{◌≡◌, ◌⊎◌, ℕ, zero, suc, ◌<◌, ◌%◌, ◌==◌, Bool, true, false, if◌then◌else◌, List, [], ◌∷◌, length, refl, ap, ◌∙◌, sym, subst, Option, Some, None, inl, inr, arith, slice_index_or, slice_set}
+use Rattle.std.proofs.Common.{◌≡◌, ℕ, zero, suc, ◌<◌, ◌%◌, ◌==◌, Bool, true, false, if◌then◌else◌, List, [], ◌∷◌, length, refl, ap, ◌∙◌, sym, Option, Some, None, inl, inr, arith, slice_index_or, slice_set}
 use Rattle.std.proofs.lemmas.Nat.{mod_below}
 use Rattle.sw_lists.proofs.Lists.{eq_same, eq_other, equal_or_not}
 use Rattle.sw_step.specs.declared.actor.ActorId.{ActorId}
-use Rattle.sw_step.specs.declared.actor.ActorId.TheVariants as actors
 use Rattle.sw_record.specs.Words.{Event, Connect, Packet, Closed, Finish, Task}
 use Rattle.sw_record.specs.Terms.{Terms, keeps}
-use Rattle.sw_record.specs.Fits.{is_some, at_fd, own_with, own_without, own_behind}
+use Rattle.sw_record.specs.Fits.{is_some, at_fd, own_with, own_behind}
 use Rattle.sw_past.specs.Messages.{Message}
 use Rattle.sw_hand.specs.Stage.{current_of}
-use Rattle.sw_hand.specs.House.{keeps as code_keeps, fd_of}
-use Rattle.sw_hand.specs.Hand.{own_room, own_with as code_own_with, own_without as code_own_without, own_less}
-use Rattle.sw_hand.specs.declared.hand.Hand.{Hand as CodeHand}
+use Rattle.sw_hand.specs.House.{fd_of}
+use Rattle.sw_hand.specs.Hand.{own_with as code_own_with, own_less}
 use Rattle.sw_hand.specs.declared.house.House.{House}
 use Rattle.sw_hand.specs.declared.house.Kind.{Kind}
 use Rattle.sw_hand.specs.declared.house.Kind.TheVariants as kinds
 use Rattle.sw_hand_laws.specs.Hand.{bye_to, last_words}
-use Rattle.sw_hand_fits.specs.Matches.{actor_of, HouseFits, own_of, Matches, IsNumberedEvent}
+use Rattle.sw_hand_fits.specs.Matches.{actor_of, HouseFits, own_of, IsNumberedEvent}
 use Rattle.sw_hand_fits.proofs.Basics.{keeps_same, fd_same, own_some}
 
 -- a slot that is set, and every other one

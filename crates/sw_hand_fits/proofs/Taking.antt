@@ -1,5 +1,5 @@
 -- What was taken and what a push came to make the tables' turns.
-use Rattle.std.proofs.Common.{◌≡◌, ◌⊎◌, ℕ, suc, ◌<◌, ◌≤◌, ◌+◌, ◌-◌, ltb, min, nat_lt, Bool, true, false, if◌then◌else◌, List, [], ◌∷◌, length, refl, ap, ◌∙◌, sym, subst, Option, Some, None, inl, inr, arith}
+use Rattle.std.proofs.Common.{◌≡◌, ◌⊎◌, ℕ, suc, ◌<◌, ◌+◌, ◌-◌, ltb, min, Bool, true, false, if◌then◌else◌, List, [], ◌∷◌, length, refl, ap, ◌∙◌, sym, subst, Option, Some, None, inl, inr, arith}
 use Rattle.std.proofs.lemmas.Bool.{lt-ltb, cases_lt, le-ltb}
 use Rattle.sw_lists.specs.Lists.{Each}
 use Rattle.sw_step.specs.declared.actor.ActorId.{ActorId}
@@ -10,8 +10,7 @@ use Rattle.sw_data.specs.declared.messages.Target.{Target}
 use Rattle.sw_data.specs.declared.messages.Ask.{Ask as CodeAsk}
 use Rattle.sw_data.specs.declared.messages.Ask.TheVariants as asks
 use Rattle.sw_data.specs.declared.messages.Got.{Got as CodeGot}
-use Rattle.sw_data.specs.declared.messages.Got.TheVariants as gots
-use Rattle.sw_record.specs.Words.{Event, Connect, Packet, Closed, Finish, Task, Act, Send, Close, Reset, TaskAct, FinishAct, Done, Answer, TaskFull, EventGiven}
+use Rattle.sw_record.specs.Words.{Event, Connect, Packet, Closed, Finish, Task, Act, Send, Close, Reset, FinishAct, Done, Answer, TaskFull, EventGiven}
 use Rattle.sw_record.specs.Terms.{Terms, keeps}
 use Rattle.sw_record.specs.Fits.{own_with, own_behind, next_with}
 use Rattle.sw_past.specs.Messages.{Message, FreshMsg, SendMsg, CloseMsg, ResetMsg, Bye, EventMsg, OverMsg, NoMore, message_of}
@@ -30,13 +29,12 @@ use Rattle.sw_hand.specs.declared.house.Kind.TheVariants as kinds
 use Rattle.sw_hand.specs.declared.stage.Current.{Current}
 use Rattle.sw_hand.specs.declared.stage.Errand.{Errand}
 use Rattle.sw_hand.specs.declared.stage.Errand.TheVariants as errands
-use Rattle.sw_hand.specs.declared.stage.Stage.{Stage as CodeStage}
 use Rattle.sw_hand.specs.declared.stage.Stage.TheVariants as stages
-use Rattle.sw_hand_laws.specs.Hand.{Got, Took, Pushed, Full, Push, AskNothing, Ports, Stage, Idle, Acting, Sending, Leaving, Stopping, Hand, Turned, goodbye, goodbyes, last_words, hear, skip, settle, left_event, answered, full_too, full, sending, leaving, stop_if, stopping, go_on, took_event, took_turn, idle_turn}
+use Rattle.sw_hand_laws.specs.Hand.{Got, Pushed, Push, AskNothing, Idle, Acting, Sending, Stopping, Hand, goodbye, last_words, hear, skip, settle, full_too, full, sending, leaving, stopping, go_on, took_event, took_turn, idle_turn}
 use Rattle.sw_hand_laws.specs.Kept.{PushFits, GotFits}
-use Rattle.sw_hand_fits.specs.Matches.{actor_of, receiver_of, HouseFits, Matches, IsErrand, ForSend, ForClose, ForReset, ForPost, ForFinish, StageFits, BothActing, BothStopping, GotIs, BothStart, BothTook, BothEmpty, BothPushed, BothFull, BothNothing, IsNumberedEvent, IsNumberedGot, ask_of, Came, Went}
+use Rattle.sw_hand_fits.specs.Matches.{actor_of, receiver_of, Matches, IsErrand, ForSend, ForClose, ForReset, ForPost, ForFinish, GotIs, BothStart, BothTook, BothEmpty, BothPushed, BothFull, BothNothing, IsNumberedEvent, IsNumberedGot, ask_of, Came, Went}
 use Rattle.sw_hand_fits.proofs.Basics.{plain, min_low, min_high, stays, heard, answered as code_answered, acting_fits, answers, asked_came}
-use Rattle.sw_hand_fits.proofs.Leaving.{leaving_fits, idle_fits, goodbyes_same, all_same, farewell_same, stops_by, stops_at, goes_on}
+use Rattle.sw_hand_fits.proofs.Leaving.{leaving_fits, idle_fits, stops_by, stops_at, goes_on}
 use Rattle.sw_hand_fits.proofs.Slots.{Stands, with_stands, less_stands}
 
 -- the push for an act is made

@@ -1,19 +1,18 @@
 -- A turn of the code is a turn of the tables.
-use Rattle.std.proofs.Common.{◌≡◌, ◌⊎◌, ℕ, ◌<◌, Bool, true, if◌then◌else◌, List, [], ◌∷◌, length, refl, ap, ◌∙◌, sym, subst, Option, inl, inr}
+use Rattle.std.proofs.Common.{◌≡◌, ℕ, ◌<◌, true, if◌then◌else◌, List, length, refl, ap, ◌∙◌, sym, subst, Option, inr}
 use Rattle.sw_step.specs.declared.actor.ActorId.{ActorId}
-use Rattle.sw_step.specs.declared.actor.ActorId.TheVariants as actors
 use Rattle.sw_data.specs.declared.messages.Msg.{Msg}
 use Rattle.sw_data.specs.declared.messages.Msg.TheVariants as msgs
 use Rattle.sw_data.specs.declared.messages.Ask.{Ask as CodeAsk}
 use Rattle.sw_data.specs.declared.messages.Got.{Got as CodeGot}
 use Rattle.sw_port_board.specs.declared.crew.Sizes.{Sizes}
 use Rattle.sw_record.specs.Words.{Event, Act, Send, Close, Reset, Bind, Exist, Info, TaskAct, FinishAct, Table, Stats, Shutdown, Done, Sent, Asked}
-use Rattle.sw_record.specs.Terms.{Terms, keeps, reactor_of}
+use Rattle.sw_record.specs.Terms.{Terms, keeps}
 use Rattle.sw_past.specs.Messages.{SendMsg, CloseMsg, ResetMsg}
 use Rattle.sw_past.specs.Routes.{is_worker}
 use Rattle.sw_hand.specs.Ports.{Acting as Handling, Going, Looking, Binding, Calling}
 use Rattle.sw_hand.specs.Stage.{current_of, Fits}
-use Rattle.sw_hand.specs.House.{keeps as code_keeps, farewells}
+use Rattle.sw_hand.specs.House.{farewells}
 use Rattle.sw_hand.specs.Hand.{IsHand, IsCrew, own_room, unstaged}
 use Rattle.sw_hand.specs.Turn.{Makes, TurnsAs, Turns}
 use Rattle.sw_hand.specs.declared.hand.Hand.{Hand as CodeHand}
@@ -23,10 +22,10 @@ use Rattle.sw_hand.specs.declared.house.Kind.TheVariants as kinds
 use Rattle.sw_hand.specs.declared.stage.Errand.TheVariants as errands
 use Rattle.sw_hand.specs.declared.stage.Stage.{Stage as CodeStage}
 use Rattle.sw_hand.specs.declared.stage.Stage.TheVariants as stages
-use Rattle.sw_hand_laws.specs.Hand.{Got, Ports, Stage, Idle, Acting, Sending, Leaving, Stopping, Stopped, Hand, make, turn}
+use Rattle.sw_hand_laws.specs.Hand.{Got, Stage, Acting, Hand, make, turn}
 use Rattle.sw_hand_laws.specs.Keeps.{Carries}
 use Rattle.sw_hand_laws.specs.Kept.{GotFits}
-use Rattle.sw_hand_fits.specs.Matches.{actor_of, HouseFits, Matches, ForSend, ForClose, ForReset, StageFits, BothIdle, BothActing, BothSending, BothLeaving, BothStopping, BothOver, GotIs, IsNumbered, IsNumberedGot, IsNumberedStage, CallsMay, Came, Went}
+use Rattle.sw_hand_fits.specs.Matches.{actor_of, HouseFits, Matches, ForSend, ForClose, ForReset, StageFits, BothIdle, BothActing, BothSending, BothLeaving, BothStopping, BothOver, GotIs, IsNumbered, IsNumberedGot, IsNumberedStage, CallsMay, Went}
 use Rattle.sw_hand_fits.proofs.Basics.{plain, stays, keeps_same}
 use Rattle.sw_hand_fits.proofs.Reaching.{reach_fits, exist_fits, info_fits, bind_fits}
 use Rattle.sw_hand_fits.proofs.Posting.{post_fits, finish_fits}

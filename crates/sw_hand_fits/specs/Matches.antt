@@ -17,7 +17,7 @@ use Rattle.sw_data.specs.declared.messages.Got.{Got as CodeGot}
 use Rattle.sw_data.specs.declared.messages.Got.TheVariants as gots
 use Rattle.sw_port_shelf.specs.Shelf.{AnswersFit}
 use Rattle.sw_port_shelf.specs.declared.shelf.Placed.{Placed}
-use Rattle.sw_record.specs.Words.{Event, Connect, Packet, Closed, Act, Dst, Send, Close, Reset, Bind, Exist, Info, TaskAct, FinishAct, Table, Stats, Shutdown, Done, Answer}
+use Rattle.sw_record.specs.Words.{Event, Connect, Packet, Closed, Act, Dst, Send, Close, Reset, Bind, Exist, Info, TaskAct, FinishAct}
 use Rattle.sw_record.specs.Terms.{Terms, keeps}
 use Rattle.sw_past.specs.Messages.{Message, message_of}
 use Rattle.sw_past.specs.Views.{event_in}
