@@ -2,10 +2,7 @@
 use Rattle.std.proofs.Common.{◌≡◌, ℕ, ◌+◌, [], refl, subst, arith, inl, inr}
 use Rattle.sw_step.specs.declared.actor.ActorId.{ActorId}
 use Rattle.sw_record.specs.Terms.{Terms}
-use Rattle.sw_record.specs.Counts.{counted}
-use Rattle.sw_record.specs.Places.{places}
 use Rattle.sw_past.specs.Routes.{IsHand}
-use Rattle.sw_join.proofs.Streams.{pushes}
 use Rattle.sw_hand_laws.specs.Hand.{Got, Start, Ports, Stage, Idle, Stopped, Hand, turn}
 use Rattle.sw_hand_laws.specs.Keeps.{Speaks}
 use Rattle.sw_hand_laws.specs.Tasks.{Posting, Making}

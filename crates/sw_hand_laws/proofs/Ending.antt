@@ -9,7 +9,6 @@ use Rattle.sw_step.specs.declared.actor.ActorId.TheVariants.{Door, Reactor, Work
 use Rattle.sw_step.specs.Actors.{is}
 use Rattle.sw_record.specs.Words.{Event, Connect, Packet, Closed, Finish, Task, Act, Answer, Given}
 use Rattle.sw_record.specs.Terms.{Terms, reactor_of}
-use Rattle.sw_record.specs.Counts.{counted}
 use Rattle.sw_past.specs.Messages.{Message, FreshMsg, EventMsg, NoMore, OverMsg, Bye, SendMsg, CloseMsg, ResetMsg}
 use Rattle.sw_past.specs.Routes.{MayPush, IsRouted}
 use Rattle.sw_past.specs.Past.{Mail, bare, of}

@@ -1,5 +1,5 @@
 -- What is said of a list or a log with one more item at its end.
-use Rattle.std.proofs.Common.{◌≡◌, ℕ, ◌==◌, Bool, true, false, if◌then◌else◌, List, [], ◌∷◌, ◌++◌, refl, ap, ◌∙◌, sym, append-nil, append_assoc, subst}
+use Rattle.std.proofs.Common.{◌≡◌, ◌⊎◌, ℕ, ◌==◌, Bool, true, false, if◌then◌else◌, List, [], ◌∷◌, ◌++◌, length, slice_get, Some, refl, ap, ◌∙◌, sym, append-nil, append_assoc, subst, arith, inl, inr, zero, suc}
 use Rattle.sw_lists.specs.Lists.{collect, when, Each}
 use Rattle.sw_lists.proofs.Lists.{collect-append, eq_is}
 use Rattle.sw_step.specs.declared.actor.ActorId.{ActorId}
@@ -7,7 +7,7 @@ use Rattle.sw_step.specs.declared.actor.ActorId.TheVariants.{Door, Reactor, Work
 use Rattle.sw_step.specs.Actors.{is}
 use Rattle.sw_record.specs.Words.{Event, Connect, Packet, Closed, Finish, Task, Act, Done, Answer, Sent, Asked, BindOk, Exists, InfoIs, Posted, Finished, TableIs, TableRefused, Count, NoSession, Bound, BadUid, WrongMode, TaskFull, BadTarget, NoTaskWorkers, IdsSpent, NotHere, NoTable, Given, AnswerGiven, Log}
 use Rattle.sw_record.specs.Terms.{Terms, keeps, reactor_of}
-use Rattle.sw_record.specs.Logs.{event_of, events_of}
+use Rattle.sw_record.specs.Logs.{event_of, events_of, EndsDone}
 use Rattle.sw_record.specs.Dialogue.{DialogueAfter, MayFollow}
 use Rattle.sw_record.specs.Tasks.{posted_by, gave_by, now_then, task_of}
 use Rattle.sw_record.specs.Answers.{answers_after, answers_of, answer_to}
@@ -319,3 +319,21 @@ for_one (Tasker k) (Packet s i b) f fs q = absurd (cc)
 for_one (Tasker k) (Closed s) f fs q = absurd (cc)
 for_one (Tasker k) (Finish id b) f fs q = absurd (cc)
 for_one (Tasker k) (Task v id b) f fs q = refl
+
+-- places
+pub at_end : {A : Type 0} (xs : List A) (x : A) (n : ℕ) → length xs ≡ n → slice_get (xs ++ x ∷ []) n ≡ Some x
+at_end [] x zero e = refl
+at_end [] x (suc n) e = absurd (omega (arith, e))
+at_end (y ∷ xs) x zero e = absurd (omega (arith, e))
+at_end (y ∷ xs) x (suc n) e = at_end xs x n (omega (arith, e))
+
+pub stays : {A : Type 0} (vs ws : List A) (n : ℕ) (x : A) → slice_get vs n ≡ Some x → slice_get (vs ++ ws) n ≡ Some x
+stays [] ws n x r = absurd (cc)
+stays (v ∷ vs) ws zero x r = r
+stays (v ∷ vs) ws (suc n) x r = stays vs ws n x r
+
+-- a log whose last act is Done
+pub ends_done : (act : Act) (log : Log) → last_after act log ≡ Done → (log ≡ []) ⊎ EndsDone log
+ends_done act [] q = inl refl
+ends_done act ((g, a) ∷ []) q = inr ([], (g, ap (λ (b : Act). (g, b) ∷ []) q))
+ends_done act ((g, a) ∷ (f, b) ∷ log) q = elim (ends_done a ((f, b) ∷ log) q) [ inl n ↦ absurd (let r : (f, b) ∷ log ≡ [] = n in cc) | inr (front, (given, r)) ↦ inr ((g, a) ∷ front, (given, ap (λ zs. (g, a) ∷ zs) r)) ]

@@ -1,5 +1,5 @@
 -- A call that doesn't fit its columns is refused for its own arguments.
-use Rattle.std.proofs.Common.{◌≡◌, Bool, true, false, if◌then◌else◌, List, [], ◌∷◌, refl, Option, Some, None, ℤ, pos, negsuc, ℕ, ◌-◌, ◌*◌, ◌^◌, nat_lt}
+use Rattle.std.proofs.Common.{◌≡◌, Bool, true, false, if◌then◌else◌, List, [], ◌∷◌, refl, Option, Some, None, ℕ}
 use Rattle.sw_base.specs.declared.table.Value.{Value}
 use Rattle.sw_base.specs.declared.table.Value.TheVariants as values
 use Rattle.sw_base.specs.declared.table.Call.{Call}
@@ -10,7 +10,7 @@ use Rattle.sw_column.specs.declared.column.Column.{Column}
 use Rattle.sw_column.specs.declared.column.Kind.{Kind}
 use Rattle.sw_column.specs.declared.column.Kind.TheVariants.{Int, Text, Float}
 use Rattle.sw_column.specs.Columns.{column_of}
-use Rattle.sw_column.specs.Fit.{fits, number_fault, text_fault, value_fault, at_column, or_else, pairs_fault, counter_kind, counter_fault, is_key, key_fault, behind_key, call_fault}
+use Rattle.sw_column.specs.Fit.{fits, number_fault, text_fault, value_fault, at_column, or_else, pairs_fault, counter_kind, counter_fault, is_key, call_fault}
 use Rattle.sw_port_shelf.specs.Shelf.{is_of_place}
 
 -- none, or one that is for the call's own arguments

@@ -10,15 +10,14 @@ use Rattle.sw_record.specs.Logs.{event_of, events_of, EndsDone}
 use Rattle.sw_record.specs.Dialogue.{Dialogue, MayFollow}
 use Rattle.sw_past.specs.Messages.{NoMore, Message}
 use Rattle.sw_past.specs.Said.{last_after}
-use Rattle.sw_past.specs.Views.{due}
 use Rattle.sw_hand_laws.specs.Hand.{Got, Ports, Stage, goodbye, turn, Hand, Seen, say, hear, skip, settle, answered, left_event, is_due}
-use Rattle.sw_hand_laws.specs.Keeps.{Carried, CSend, CClose, CReset, CPost, CGive}
 use Rattle.sw_hand_laws.specs.Kept.{Kept, GotFits}
 use Rattle.sw_hand_laws.specs.Moved.{Moved, Waits, Answers, Aims, Sends, Fulls, Hears, Skips, Overs, Leaves, Lefts, Stops, Nones, SkipStops, SkipNones, Nexts, Lasts, PortsFit, Holds}
 use Rattle.sw_hand_laws.proofs.Moves.{turn_moves}
 use Rattle.sw_hand_laws.proofs.Fitting.{holds}
 use Rattle.sw_hand_laws.specs.Generations.{entries, IsOver, Generations}
-use Rattle.sw_hand_laws.proofs.Ends.{one_more, follows, told_same, last_is}
+use Rattle.sw_hand_laws.proofs.Ends.{one_more, follows, told_same, last_is, ends_done}
+use Rattle.sw_hand_laws.proofs.Speaks.{may_carried}
 
 concat_more : (ls : List Log) (log : Log) → collect entries (ls ++ log ∷ []) ≡ collect entries ls ++ log
 concat_more [] log = append-nil log
@@ -85,11 +84,6 @@ due_not c h q = pick (c == 0) (h.events == c) refl refl q
     pick false true a b r = inr (inl (grind (arith, nat_tests)))
     pick false false a b r = inr (inr (λ e. absurd (grind (arith, nat_tests))))
 
-ends_done : (act : Act) (log : Log) → last_after act log ≡ Done → (log ≡ []) ⊎ EndsDone log
-ends_done act [] q = inl refl
-ends_done act ((g, a) ∷ []) q = inr ([], (g, ap (λ (b : Act). (g, b) ∷ []) q))
-ends_done act ((g, a) ∷ (f, b) ∷ log) q = elim (ends_done a ((f, b) ∷ log) q) [ inl n ↦ absurd (let r : (f, b) ∷ log ≡ [] = n in cc) | inr (front, (given, r)) ↦ inr ((g, a) ∷ front, (given, ap (λ zs. (g, a) ∷ zs) r)) ]
-
 -- the handler is replaced only behind an event
 some_events : (log : Log) (n : ℕ) → length (events_of log) ≡ n → ¬ (n ≡ 0) → (log ≡ []) ⊎ EndsDone log → EndsDone log
 some_events log n e z (inl q) = absurd (z (sym e ∙ ap (λ l. length (events_of l)) q))
@@ -144,13 +138,6 @@ generations_same c num h other l o u e n g = record {
   never = λ z. o ∙ g.never z;
   number = omega (arith, g.number, n, ap length o);
 }
-
-may_carried : (t : Terms) (y : ActorId) (next : ℕ) (e : Event) (act : Act) (to : ActorId) (m : Message) (a : Answer) → Carried t y next e act to m a → MayFollow act (AnswerGiven a)
-may_carried t y next e act to m a (CSend s b) = tt
-may_carried t y next e act to m a (CClose s) = tt
-may_carried t y next e act to m a (CReset s) = tt
-may_carried t y next e act to m a (CPost w k d b q f r) = tt
-may_carried t y next e act to m a (CGive w id c b q) = tt
 
 pub generations_moves : (t : Terms) (y : ActorId) (c : ℕ) (num : ℕ) (a b : Stage) (f g : Hand) → Moved t y c a f b g → Holds t y a f → Generations c num f → Generations c num g
 generations_moves t y c num a b f g (Waits st h) held k = k

@@ -7,7 +7,7 @@ use Rattle.sw_step.specs.declared.actor.ActorId.TheVariants.{Door, Reactor, Work
 use Rattle.sw_step.specs.Actors.{is}
 use Rattle.sw_record.specs.Words.{Event, Connect, Packet, Closed, Finish, Task, Act, Done, Answer, Log}
 use Rattle.sw_record.specs.Terms.{Terms, reactor_of}
-use Rattle.sw_record.specs.Logs.{events_of, EndsDone}
+use Rattle.sw_record.specs.Logs.{events_of}
 use Rattle.sw_record.specs.Tasks.{post_of, give_of}
 use Rattle.sw_record.specs.Fits.{AnswersFitLog}
 use Rattle.sw_past.specs.Messages.{Message, FreshMsg, SendMsg, CloseMsg, ResetMsg, Bye, EventMsg, OverMsg, NoMore}
@@ -25,12 +25,12 @@ use Rattle.sw_hand_laws.specs.Keeps.{IsPresent, Speaks, Carried, talk_now}
 use Rattle.sw_hand_laws.specs.Shows.{Asks}
 use Rattle.sw_hand_laws.specs.Ending.{Ending}
 use Rattle.sw_hand_laws.specs.Kept.{Kept, AskFits, After, PushFits, GotFits, taken, sent, Shown, Finished}
-use Rattle.sw_hand_laws.proofs.Ends.{bare_collect, of_collect, heard_by, words_are}
+use Rattle.sw_hand_laws.proofs.Ends.{bare_collect, of_collect, heard_by, words_are, ends_done}
 use Rattle.sw_hand_laws.proofs.Speaks.{last_carried, may_push, speaks_left, speaks_ended}
 use Rattle.sw_hand_laws.proofs.Posting.{post_law, post_law_quiet, post_law_sent, tasks_few, tasks_few_quiet, tasks_few_sent}
 use Rattle.sw_hand_laws.proofs.Making.{finish_law, finish_law_sent, making_left, making_ended}
 use Rattle.sw_hand_laws.proofs.Showing.{ask_law, ask_carried}
-use Rattle.sw_hand_laws.proofs.Ending.{no_more_once, once_of, next_split, push_work, carried_not, ending_left, worker_last_any, worker_last}
+use Rattle.sw_hand_laws.proofs.Ending.{no_more_once, once_of, next_split, push_work, carried_not, ending_left, worker_last_any}
 
 -- a pipe call is a projection: what it may give fits the stage
 take_fits : (t : Terms) (got : Got) → After t Take got → GotFits t Idle got
@@ -208,11 +208,6 @@ shows t y (Stopping j) h Pushed hand f k fit = shown_ended t y h j hand f k fit
 shows t y Stopped h Pushed hand f k fit = absurd f
 
 -- once it is finished
-ends_done : (act : Act) (log : Log) → last_after act log ≡ Done → (log ≡ []) ⊎ EndsDone log
-ends_done act [] q = inl refl
-ends_done act ((g, a) ∷ []) q = inr ([], (g, ap (λ (b : Act). (g, b) ∷ []) q))
-ends_done act ((g, a) ∷ (f, b) ∷ log) q = elim (ends_done a ((f, b) ∷ log) q) [ inl n ↦ absurd (let r : (f, b) ∷ log ≡ [] = n in cc) | inr (front, (given, r)) ↦ inr ((g, a) ∷ front, (given, ap (λ zs. (g, a) ∷ zs) r)) ]
-
 marked_now : (xs : List Message) (ps : List (ℕ × List ℕ)) → ps ≡ [] → LastMarked over_in xs ⊎ (¬ (ps ≡ [])) → LastMarked over_in xs
 marked_now xs ps q (inl m) = m
 marked_now xs ps q (inr n) = absurd (n q)

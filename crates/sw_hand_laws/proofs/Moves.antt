@@ -18,7 +18,6 @@ use Rattle.sw_record.specs.Terms.{Terms, reactor_of}
 use Rattle.sw_record.specs.Dialogue.{MayFollow}
 use Rattle.sw_record.specs.Tasks.{FitsDst}
 use Rattle.sw_record.specs.Fits.{is_own, Fits, IsThere}
-use Rattle.sw_record.specs.Causes.{refused}
 use Rattle.sw_past.specs.Messages.{Message, FreshMsg, SendMsg, CloseMsg, ResetMsg, Bye, EventMsg, OverMsg, NoMore}
 use Rattle.sw_past.specs.Views.{for_hand, heard_in}
 use Rattle.sw_past.specs.Routes.{is_worker}
@@ -79,7 +78,7 @@ goes_bind t y c h e s u p true q f = found p.binding f
     found (Err (fault.Bound v)) g = Answers h e (Bind s u) (record h.seen { lives = h.seen.lives ++ s ∷ []; bounds = h.seen.bounds ++ (s, v) ∷ [] }) (Bound v) p.act tt refl (eq_is t.mode 5 q, g)
 goes_bind t y c h e s u p false q f = Answers h e (Bind s u) (h.seen) WrongMode p.act tt refl (apart t.mode 5 q)
 
-fits_place : (t : Terms) (next : ℕ) (d : Dst) (idle : Option ℕ) → FitsDst d (Tasker (tasker_at t next d idle))
+pub fits_place : (t : Terms) (next : ℕ) (d : Dst) (idle : Option ℕ) → FitsDst d (Tasker (tasker_at t next d idle))
 fits_place t next (At k) idle = refl
 fits_place t next Any (Some k) = tt
 fits_place t next Any None = tt

@@ -1,5 +1,5 @@
 -- Each step of a worker keeps what it says of its tasks.
-use Rattle.std.proofs.Common.{◌≡◌, ℕ, ◌+◌, ◌≤◌, true, List, [], ◌∷◌, ◌++◌, length, refl, ap, ◌∙◌, sym, subst, append-nil, arith, Some, slice_get, zero, suc}
+use Rattle.std.proofs.Common.{◌≡◌, ℕ, ◌+◌, ◌≤◌, true, List, [], ◌∷◌, ◌++◌, length, refl, ap, ◌∙◌, sym, subst, append-nil, arith}
 use Rattle.sw_lists.specs.Lists.{collect, Each}
 use Rattle.sw_lists.specs.Numbers.{IsCounting}
 use Rattle.sw_lists.proofs.Lists.{each_append, each_more, length_append, eq_same}
@@ -9,18 +9,16 @@ use Rattle.sw_record.specs.Words.{Event, Task, Act, TaskAct, Done, Answer, Sent,
 use Rattle.sw_record.specs.Terms.{Terms}
 use Rattle.sw_record.specs.Tasks.{posted_in, posted_by, post_of, posts, IsPost, FitsDst}
 use Rattle.sw_record.specs.Fits.{next_with}
-use Rattle.sw_record.specs.Places.{places}
 use Rattle.sw_past.specs.Messages.{Message, EventMsg}
 use Rattle.sw_past.specs.Past.{Mail, bare}
 use Rattle.sw_past.specs.Views.{task_in, task_id, over_in}
 use Rattle.sw_past.specs.Said.{last_after, posted_after}
 use Rattle.sw_join.specs.Tasks.{PostLaw}
 use Rattle.sw_join.proofs.Talking.{posted_more, posts_settled}
-use Rattle.sw_join.proofs.Streams.{pushes}
 use Rattle.sw_hand_laws.specs.Hand.{Hand, Seen, say, hear, skip, settle, answered}
 use Rattle.sw_hand_laws.specs.Keeps.{silent, Carried, CSend, CClose, CReset, CPost, CGive}
 use Rattle.sw_hand_laws.specs.Tasks.{PostLogged, PostPushed, Posting}
-use Rattle.sw_hand_laws.proofs.Ends.{one_more, bare_collect, silent_posted}
+use Rattle.sw_hand_laws.proofs.Ends.{one_more, bare_collect, silent_posted, at_end, stays}
 
 silent_posted_in : (a : Answer) (act : Act) → silent a ≡ true → posted_in (AnswerGiven a, act) ≡ []
 silent_posted_in Sent act q = absurd (cc)
@@ -51,17 +49,6 @@ counting_more j n (x ∷ xs) e h = (h.0, subst (λ k. IsCounting (j + 1) (xs ++ 
 counting_next : (n : ℕ) (xs : List ℕ) → length xs ≡ n → IsCounting 0 xs → IsCounting 0 (xs ++ n ∷ [])
 counting_next n xs e h = subst (λ k. IsCounting 0 (xs ++ k ∷ [])) (omega arith) (counting_more 0 n xs e h)
 
-at_end : {A : Type 0} (xs : List A) (x : A) (n : ℕ) → length xs ≡ n → slice_get (xs ++ x ∷ []) n ≡ Some x
-at_end [] x zero e = refl
-at_end [] x (suc n) e = absurd (omega (arith, e))
-at_end (y ∷ xs) x zero e = absurd (omega (arith, e))
-at_end (y ∷ xs) x (suc n) e = at_end xs x n (omega (arith, e))
-
-still_there : {A : Type 0} (xs ys : List A) (n : ℕ) (x : A) → slice_get xs n ≡ Some x → slice_get (xs ++ ys) n ≡ Some x
-still_there [] ys n x e = absurd (cc)
-still_there (y ∷ xs) ys zero x e = e
-still_there (y ∷ xs) ys (suc n) x e = still_there xs ys n x e
-
 -- the log
 logged_same : (n : ℕ) (log : Log) (g : Given) (a : Act) → posted_in (g, a) ≡ [] → posted_by (last_after Done log) g ≡ [] → PostLogged n log → PostLogged n (log ++ (g, a) ∷ [])
 logged_same n log g a p q k =
@@ -90,7 +77,7 @@ mail_more : (w n : ℕ) (ps qs : List (Dst × List ℕ)) (pushed : Mail) → Pos
 mail_more w n ps qs pushed k = record {
   counting = k.counting;
   pushes = k.pushes;
-  places = each_more (λ (p : ActorId × Message). Each (IsPost ps p.0) (task_in w p.1)) (λ (p : ActorId × Message). Each (IsPost (ps ++ qs) p.0) (task_in w p.1)) pushed (λ p h. each_more (IsPost ps p.0) (IsPost (ps ++ qs) p.0) (task_in w p.1) (λ x i. (i.0, (still_there ps qs x.0 (i.0, x.1) i.1.0, i.1.1))) h) k.places;
+  places = each_more (λ (p : ActorId × Message). Each (IsPost ps p.0) (task_in w p.1)) (λ (p : ActorId × Message). Each (IsPost (ps ++ qs) p.0) (task_in w p.1)) pushed (λ p h. each_more (IsPost ps p.0) (IsPost (ps ++ qs) p.0) (task_in w p.1) (λ x i. (i.0, (stays ps qs x.0 (i.0, x.1) i.1.0, i.1.1))) h) k.places;
 }
 
 own_task : (w n : ℕ) (b : List ℕ) → task_in w (EventMsg (Task w n b)) ≡ (n, b) ∷ []

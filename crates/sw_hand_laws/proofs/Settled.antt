@@ -1,12 +1,12 @@
 -- A turn adds one entry to the log at most, and as it does all that was pushed before is for good.
-use Rattle.std.proofs.Common.{◌≡◌, ◌⊎◌, ℕ, ◌≤◌, Bool, true, false, List, [], ◌∷◌, ◌++◌, length, refl, ap, ◌∙◌, sym, subst, append-nil, arith, inl, inr, suc, ltb}
+use Rattle.std.proofs.Common.{◌≡◌, ◌⊎◌, ℕ, Bool, true, false, [], ◌∷◌, ◌++◌, length, refl, ap, ◌∙◌, subst, append-nil, arith, inl, inr, suc, ltb}
 use Rattle.sw_lists.specs.Lists.{collect, IsPrefix}
 use Rattle.sw_lists.proofs.Lists.{prefix_refl, prefix_trans, prefix_collect, prefix_length}
 use Rattle.sw_step.specs.declared.actor.ActorId.{ActorId}
 use Rattle.sw_step.specs.declared.actor.ActorId.TheVariants.{Reactor, Worker}
 use Rattle.sw_record.specs.Words.{Event, Act, Given, EventGiven, AnswerGiven, TaskFull, Log}
 use Rattle.sw_record.specs.Terms.{Terms, reactor_of}
-use Rattle.sw_past.specs.Messages.{Message, NoMore}
+use Rattle.sw_past.specs.Messages.{NoMore}
 use Rattle.sw_past.specs.Past.{Mail, bare, msg_of, of, with}
 use Rattle.sw_past.specs.Views.{talk_in, task_id, finish_in}
 use Rattle.sw_past.specs.Said.{settled}

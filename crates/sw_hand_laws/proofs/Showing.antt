@@ -20,7 +20,7 @@ use Rattle.sw_join.proofs.Own.{own}
 use Rattle.sw_hand_laws.specs.Hand.{Hand, Seen, Stage, Idle, Acting, Sending, Leaving, say, hear, skip, settle, answered, left_event}
 use Rattle.sw_hand_laws.specs.Keeps.{Carried, CSend, CClose, CReset, CPost, CGive, now}
 use Rattle.sw_hand_laws.specs.Shows.{Granted, Found, IsAnswered, Asks, Pending, Showing, onto, Noted, stop_in}
-use Rattle.sw_hand_laws.proofs.Ends.{one_more, answers_more, told_same}
+use Rattle.sw_hand_laws.proofs.Ends.{one_more, answers_more, told_same, at_end, stays}
 
 -- one more entry
 shown : {B : Type 0} (f : Act × Answer → List B) (log : Log) (act : Act) (a : Answer) (next : Act) → last_after Done log ≡ act → collect f (answers_of (log ++ (AnswerGiven a, next) ∷ [])) ≡ collect f (answers_of log) ++ f (act, a)
@@ -38,11 +38,6 @@ told_still s log a act = ap (collect (of_session s)) (told_same log a act)
 onto_is : {A : Type 0} (xs ys : List A) → onto xs ys ≡ xs ++ ys
 onto_is xs [] = sym (append-nil xs)
 onto_is xs (y ∷ ys) = refl
-
-stays : {A : Type 0} (vs ws : List A) (n : ℕ) (x : A) → slice_get vs n ≡ Some x → slice_get (vs ++ ws) n ≡ Some x
-stays [] ws n x r = absurd (cc)
-stays (v ∷ vs) ws zero x r = r
-stays (v ∷ vs) ws (suc n) x r = stays vs ws n x r
 
 has_more : {A : Type 0} (x : A) (xs ys : List A) → IsPrefix xs ys → Has x xs → Has x ys
 has_more x xs ys (rest, q) (at, e) = (at, subst (λ zs. slice_get zs at ≡ Some x) q (stays xs rest at x e))
@@ -149,14 +144,8 @@ carried_marks t y next e act to m a (CGive w id c b q) = (refl, (refl, (refl, re
 nothing_more : {B : Type 0} (f : Act × Answer → List B) (log : Log) (act : Act) (a : Answer) (next : Act) → last_after Done log ≡ act → f (act, a) ≡ [] → collect f (answers_of (log ++ (AnswerGiven a, next) ∷ [])) ≡ collect f (answers_of log)
 nothing_more f log act a next q n = shown f log act a next q ∙ ap (λ ps. collect f (answers_of log) ++ ps) n ∙ append-nil (collect f (answers_of log))
 
-pub entry_end : (log : Log) (x : Given × Act) (n : ℕ) → n ≡ length log → slice_get (log ++ x ∷ []) n ≡ Some x
-entry_end [] x zero e = refl
-entry_end [] x (suc n) e = absurd (omega (arith, e))
-entry_end (y ∷ log) x zero e = absurd (omega (arith, e))
-entry_end (y ∷ log) x (suc n) e = entry_end log x n (omega (arith, e))
-
 is_answered : (log : Log) (act : Act) (next : Act) → ¬ (Done ≡ act) → last_after Done log ≡ act → IsAnswered (log ++ (AnswerGiven Asked, next) ∷ []) act
-is_answered log act next n q = elim (last_at Done log act q) [ inl z ↦ absurd (n z.1) | inr (at, (g, (e, l))) ↦ (at, (g, (next, (stays log ((AnswerGiven Asked, next) ∷ []) at (g, act) e, entry_end log (AnswerGiven Asked, next) (suc at) l)))) ]
+is_answered log act next n q = elim (last_at Done log act q) [ inl z ↦ absurd (n z.1) | inr (at, (g, (e, l))) ↦ (at, (g, (next, (stays log ((AnswerGiven Asked, next) ∷ []) at (g, act) e, at_end log (AnswerGiven Asked, next) (suc at) (sym l))))) ]
 
 asks_carried : (t : Terms) (y : ActorId) (log : Log) (n : ℕ) (e : Event) (act : Act) (to : ActorId) (m : Message) (a : Answer) (next : Act) → last_after Done log ≡ act → Carried t y n e act to m a → Asks (log ++ (AnswerGiven a, next) ∷ []) m
 asks_carried t y log n e act to m a next q (CSend s b) = tt

@@ -48,7 +48,7 @@ pub speaks_asked : (t : Terms) (y : ActorId) (h : Hand) (e : Event) (act : Act) 
 speaks_asked t y h e act seen to m a k c = record { dialogue = k.dialogue; last = k.last; mine = k.mine; owing = k.owing; carries = c; told = k.told; talk = k.talk; routed = k.routed }
 
 -- what is carried answers its act, tells its reactor what the act says, and may be pushed
-may_carried : (t : Terms) (y : ActorId) (next : ℕ) (e : Event) (act : Act) (to : ActorId) (m : Message) (a : Answer) → Carried t y next e act to m a → MayFollow act (AnswerGiven a)
+pub may_carried : (t : Terms) (y : ActorId) (next : ℕ) (e : Event) (act : Act) (to : ActorId) (m : Message) (a : Answer) → Carried t y next e act to m a → MayFollow act (AnswerGiven a)
 may_carried t y next e act to m a (CSend s b) = tt
 may_carried t y next e act to m a (CClose s) = tt
 may_carried t y next e act to m a (CReset s) = tt

@@ -1,5 +1,5 @@
 -- Each move keeps the counts.
-use Rattle.std.proofs.Common.{◌≡◌, ◌⊎◌, ℕ, ◌+◌, ◌-◌, ◌≤◌, ◌==◌, Bool, true, false, if◌then◌else◌, List, [], ◌∷◌, ◌++◌, length, refl, ap, ◌∙◌, sym, subst, append-nil, append_assoc, arith, inl, inr}
+use Rattle.std.proofs.Common.{◌≡◌, ◌⊎◌, ℕ, ◌+◌, ◌≤◌, ◌==◌, Bool, true, false, if◌then◌else◌, List, [], ◌∷◌, ◌++◌, length, refl, ap, ◌∙◌, sym, subst, append-nil, append_assoc, arith, inl, inr}
 use Rattle.std.proofs.lemmas.Bool.Decides.{nat_tests}
 use Rattle.sw_lists.specs.Lists.{collect, Each}
 use Rattle.sw_lists.proofs.Lists.{length_append}
@@ -250,13 +250,14 @@ same_end : (log : Log) (x z : Given × Act) → log ++ x ∷ [] ≡ log ++ z ∷
 same_end [] x z q = cc
 same_end (y ∷ log) x z q = same_end log x z (cc)
 
+count_same : (a b : Act) (m n : ℕ) → ◌≡◌ {A = Given × Act} (AnswerGiven (Count m), a) (AnswerGiven (Count n), b) → m ≡ n
+count_same a b m n q = (let given : ◌≡◌ {A = Given} (AnswerGiven (Count m)) (AnswerGiven (Count n)) = ap (λ (x : Given × Act). x.0) q in cc)
+
 sum_turn : (t : Terms) (y : ActorId) (c : ℕ) (p : Ports) (st : Stage) (h : Hand) (got : Got) → SumFits st h p → SumMay st h (turn t y c p st h got).hand
 sum_turn t y c p st h got s e i n next q l =
     let s₁ : SumFits (Acting e (Stats i)) h p = subst (λ (x : Stage). SumFits x h p) q s in
     let l₁ : (turn t y c p (Acting e (Stats i)) h got).hand.log ≡ h.log ++ (AnswerGiven (Count n), next) ∷ [] = subst (λ (x : Stage). (turn t y c p x h got).hand.log ≡ h.log ++ (AnswerGiven (Count n), next) ∷ []) q l in
-    let same : (AnswerGiven (Count p.sum), p.act) ≡ (AnswerGiven (Count n), next) = same_end h.log (AnswerGiven (Count p.sum), p.act) (AnswerGiven (Count n), next) l₁ in
-    let given : AnswerGiven (Count p.sum) ≡ AnswerGiven (Count n) = ap (λ (x : Given × Act). x.0) same in
-    let num : p.sum ≡ n = cc in
+    let num : p.sum ≡ n = count_same p.act next p.sum n (same_end h.log (AnswerGiven (Count p.sum), p.act) (AnswerGiven (Count n), next) l₁) in
     subst (λ k. (h.words i ≤ k) × (k ≤ greatest)) num s₁
 
 pub turn_tallied : (t : Terms) (y : ActorId) (c : ℕ) (p : Ports) (st : Stage) (h : Hand) (got : Got) → PortsFit t st h p → SumFits st h p → GotFits t st got → Kept t y st h → Tallied h → Tallied (turn t y c p st h got).hand

@@ -1,5 +1,5 @@
 -- Every turn keeps all that a hand keeps, whatever the pipe, the ports and the handler answer.
-use Rattle.std.proofs.Common.{◌≡◌, ℕ, ◌-◌, ◌%◌, ◌^◌, ltb, leb, ◌<◌, ◌==◌, Bool, true, false, if◌then◌else◌, List, [], ◌∷◌, ◌++◌, length, refl, ◌∙◌, sym, subst, append-nil, arith, Option, Some, None, inl, inr, suc, slice_get, Err, Ok, Result}
+use Rattle.std.proofs.Common.{◌≡◌, ℕ, ◌-◌, ◌%◌, ◌^◌, ltb, leb, ◌<◌, ◌==◌, Bool, true, false, if◌then◌else◌, List, [], ◌∷◌, ◌++◌, length, refl, ◌∙◌, sym, subst, append-nil, arith, Option, inl, inr, suc, Err, Ok, Result}
 use Rattle.std.proofs.lemmas.Bool.Decides.{nat_tests}
 use Rattle.sw_lists.specs.Lists.{Each, IsPrefix}
 use Rattle.sw_lists.proofs.Lists.{prefix_refl, prefix_front}
@@ -11,11 +11,10 @@ use Rattle.sw_port_book.specs.declared.answers.Look.{Look}
 use Rattle.sw_port_book.specs.declared.answers.Look.TheVariants.{Live, Other}
 use Rattle.sw_port_book.specs.declared.answers.BindFault.{BindFault}
 use Rattle.sw_port_shelf.specs.declared.shelf.Placed.{Placed}
-use Rattle.sw_record.specs.Words.{Event, Connect, Packet, Closed, Finish, Task, Act, Send, Close, Reset, Bind, Exist, Info, TaskAct, FinishAct, Table, Stats, Shutdown, Done, Answer, Sent, Asked, BindOk, Exists, InfoIs, Posted, Finished, TableIs, TableRefused, Count, NoSession, Bound, BadUid, WrongMode, TaskFull, BadTarget, NoTaskWorkers, IdsSpent, NotHere, NoTable, AnswerGiven, Any, At, Call, CallFault, Dst}
+use Rattle.sw_record.specs.Words.{Event, Connect, Packet, Closed, Finish, Task, Act, Send, Close, Reset, Bind, Exist, Info, TaskAct, FinishAct, Table, Stats, Shutdown, Done, Answer, Sent, Asked, BindOk, Exists, InfoIs, Posted, Finished, TableIs, TableRefused, Count, NoSession, Bound, BadUid, WrongMode, TaskFull, BadTarget, NoTaskWorkers, IdsSpent, NotHere, NoTable, AnswerGiven, Call, CallFault, Dst}
 use Rattle.sw_record.specs.Terms.{Terms, reactor_of}
 use Rattle.sw_record.specs.Dialogue.{MayFollow}
-use Rattle.sw_record.specs.Tasks.{FitsDst}
-use Rattle.sw_record.specs.Causes.{granted, refused}
+use Rattle.sw_record.specs.Causes.{granted}
 use Rattle.sw_record.specs.Fits.{is_own}
 use Rattle.sw_past.specs.Messages.{Message, FreshMsg, SendMsg, CloseMsg, ResetMsg, Bye, EventMsg, OverMsg, NoMore}
 use Rattle.sw_past.specs.Views.{for_hand, heard_in, task_in, no_more}
@@ -27,13 +26,14 @@ use Rattle.sw_hand_laws.specs.Tasks.{Posting}
 use Rattle.sw_hand_laws.specs.Shows.{Granted, Asks, Noted}
 use Rattle.sw_hand_laws.specs.Ending.{MayStop}
 use Rattle.sw_hand_laws.specs.Kept.{Kept, PushFits, GotFits, Went}
-use Rattle.sw_hand_laws.proofs.Ends.{words_are, one_word, for_one}
+use Rattle.sw_hand_laws.proofs.Ends.{words_are, one_word, for_one, at_end}
 use Rattle.sw_hand_laws.proofs.Speaks.{speaks_at_once, speaks_asked, speaks_answered, speaks_hear, speaks_skip, speaks_over, speaks_leave, speaks_left, speaks_stop, speaks_stopped, speaks_ended}
 use Rattle.sw_hand_laws.proofs.Posting.{posting_at_once, posting_seen, posting_answered, posting_hear, posting_skip, posting_settle}
 use Rattle.sw_hand_laws.proofs.Making.{making_at_once, making_stage, making_answered, making_hear, making_skip, making_over, making_left, making_ended}
 use Rattle.sw_hand_laws.proofs.Showing.{showing_at_once, showing_asked, showing_answered, showing_hear, showing_stage, showing_over, showing_skip, showing_settle, showing_left, own_granted}
 use Rattle.sw_hand_laws.proofs.Ending.{ending_stage, ending_say, ending_seen, carried_not, ending_answered, ending_left, ending_hear, ending_skip, ending_stop, ending_none, ending_next, ending_last}
 use Rattle.sw_port_book.specs.declared.answers.BindFault.TheVariants as fault
+use Rattle.sw_hand_laws.proofs.Moves.{fits_place}
 
 -- the steps
 kept_at_once : (t : Terms) (y : ActorId) (h : Hand) (e : Event) (act : Act) (after : Seen) (a : Answer) (next : Act) → MayFollow act (AnswerGiven a) → silent a ≡ true → Noted t h.log h.seen act a after → Kept t y (Acting e act) h → Kept t y (Acting e next) (say (record h { seen = after }) (AnswerGiven a) next)
@@ -166,21 +166,13 @@ kept_last t y h j hand there q k = record {
 went_once : (t : Terms) (y : ActorId) (h : Hand) (e : Event) (act : Act) (after : Seen) (a : Answer) (next : Act) → MayFollow act (AnswerGiven a) → silent a ≡ true → Noted t h.log h.seen act a after → Kept t y (Acting e act) h → Went t y (at_once (record h { seen = after }) e a next)
 went_once t y h e act after a next may q n k = record { kept = kept_at_once t y h e act after a next may q n k; fits = refl }
 
-last_has : (xs : List ℕ) (x : ℕ) → slice_get (xs ++ x ∷ []) (length xs) ≡ Some x
-last_has [] x = refl
-last_has (y ∷ xs) x = last_has xs x
-
-last_pair : (xs : List (ℕ × ℕ)) (x : ℕ × ℕ) → slice_get (xs ++ x ∷ []) (length xs) ≡ Some x
-last_pair [] x = refl
-last_pair (y ∷ xs) x = last_pair xs x
-
 -- Send, Close and Reset
 went_reach : (t : Terms) (y : ActorId) (h : Hand) (e : Event) (act : Act) (s : ℕ) (m : Message) (a : Answer) (p : Ports) (v : Bool) → is_own t h.own e s ≡ v → Carried t y h.next e act (Reactor (reactor_of t s)) m a → granted (act, a) ≡ s ∷ [] → ((n : ℕ) → MayFollow act (AnswerGiven (NoSession n))) → ((n : ℕ) → Noted t h.log h.seen act (NoSession n) (record h.seen { others = h.seen.others ++ (s, n) ∷ [] })) → Kept t y (Acting e act) h → Went t y (reach t h e act s m a p v)
 went_reach t y h e act s m a p true o c g may n k = record { kept = kept_asked t y h e act h.seen.lives (Reactor (reactor_of t s)) m a c (prefix_refl h.seen.lives) (subst (Each (Granted h.log h.seen)) (sym g) (inr (own_granted t (Acting e act) h e s refl k.showing o), tt)) k; fits = refl }
 went_reach t y h e act s m a p false o c g may n k = looked p.look
   where
     looked : (l : Look) → Went t y (reach_seen t h e act s m a p.act l)
-    looked (Live u) = record { kept = kept_asked t y h e act (h.seen.lives ++ s ∷ []) (Reactor (reactor_of t s)) m a c (prefix_front h.seen.lives (s ∷ [])) (subst (Each (Granted h.log (record h.seen { lives = h.seen.lives ++ s ∷ [] }))) (sym g) (inl (length h.seen.lives, last_has h.seen.lives s), tt)) k; fits = refl }
+    looked (Live u) = record { kept = kept_asked t y h e act (h.seen.lives ++ s ∷ []) (Reactor (reactor_of t s)) m a c (prefix_front h.seen.lives (s ∷ [])) (subst (Each (Granted h.log (record h.seen { lives = h.seen.lives ++ s ∷ [] }))) (sym g) (inl (length h.seen.lives, at_end h.seen.lives s (length h.seen.lives) refl), tt)) k; fits = refl }
     looked (Other j) = went_once t y h e act (record h.seen { others = h.seen.others ++ (s, j) ∷ [] }) (NoSession j) p.act (may j) refl (n j) k
 
 went_exist : (t : Terms) (y : ActorId) (h : Hand) (e : Event) (s : ℕ) (p : Ports) (v : Bool) → is_own t h.own e s ≡ v → Kept t y (Acting e (Exist s)) h → Went t y (exist h e s p v)
@@ -188,7 +180,7 @@ went_exist t y h e s p true o k = went_once t y h e (Exist s) h.seen Exists p.ac
 went_exist t y h e s p false o k = looked p.look
   where
     looked : (l : Look) → Went t y (exist_seen h e s p.act l)
-    looked (Live u) = went_once t y h e (Exist s) (record h.seen { lives = h.seen.lives ++ s ∷ [] }) Exists p.act tt refl (record { passes = refl; bounds = refl; others = refl; seat = refl; sums = refl; fulls = refl; stops = refl; busy = refl; spents = refl; lives = prefix_front h.seen.lives (s ∷ []); infos = prefix_refl h.seen.infos; finds = tt; grants = (inl (length h.seen.lives, last_has h.seen.lives s), tt) }) k
+    looked (Live u) = went_once t y h e (Exist s) (record h.seen { lives = h.seen.lives ++ s ∷ [] }) Exists p.act tt refl (record { passes = refl; bounds = refl; others = refl; seat = refl; sums = refl; fulls = refl; stops = refl; busy = refl; spents = refl; lives = prefix_front h.seen.lives (s ∷ []); infos = prefix_refl h.seen.infos; finds = tt; grants = (inl (length h.seen.lives, at_end h.seen.lives s (length h.seen.lives) refl), tt) }) k
     looked (Other n) = went_once t y h e (Exist s) (record h.seen { others = h.seen.others ++ (s, n) ∷ [] }) (NoSession n) p.act tt refl (record { passes = refl; bounds = refl; others = refl; seat = refl; sums = refl; fulls = refl; stops = refl; busy = refl; spents = refl; lives = prefix_refl h.seen.lives; infos = prefix_refl h.seen.infos; finds = tt; grants = tt }) k
 
 went_info : (t : Terms) (y : ActorId) (h : Hand) (e : Event) (s : ℕ) (p : Ports) (v : Bool) → (if t.mode == 5 then false else is_own t h.own e s) ≡ v → Kept t y (Acting e (Info s)) h → Went t y (info t h e s p v)
@@ -200,25 +192,20 @@ went_info t y h e s p true o k = went_once t y h e (Info s) h.seen (InfoIs (s % 
 went_info t y h e s p false o k = looked p.look
   where
     looked : (l : Look) → Went t y (info_seen t h e s p.act l)
-    looked (Live u) = went_once t y h e (Info s) (record h.seen { lives = h.seen.lives ++ s ∷ []; infos = h.seen.infos ++ (s, u) ∷ [] }) (InfoIs (s % t.max_conn) u) p.act tt refl (record { passes = refl; bounds = refl; others = refl; seat = refl; sums = refl; fulls = refl; stops = refl; busy = refl; spents = refl; lives = prefix_front h.seen.lives (s ∷ []); infos = prefix_front h.seen.infos ((s, u) ∷ []); finds = ((refl, inr (length h.seen.infos, last_pair h.seen.infos (s, u))), tt); grants = (inl (length h.seen.lives, last_has h.seen.lives s), tt) }) k
+    looked (Live u) = went_once t y h e (Info s) (record h.seen { lives = h.seen.lives ++ s ∷ []; infos = h.seen.infos ++ (s, u) ∷ [] }) (InfoIs (s % t.max_conn) u) p.act tt refl (record { passes = refl; bounds = refl; others = refl; seat = refl; sums = refl; fulls = refl; stops = refl; busy = refl; spents = refl; lives = prefix_front h.seen.lives (s ∷ []); infos = prefix_front h.seen.infos ((s, u) ∷ []); finds = ((refl, inr (length h.seen.infos, at_end h.seen.infos (s, u) (length h.seen.infos) refl)), tt); grants = (inl (length h.seen.lives, at_end h.seen.lives s (length h.seen.lives) refl), tt) }) k
     looked (Other n) = went_once t y h e (Info s) (record h.seen { others = h.seen.others ++ (s, n) ∷ [] }) (NoSession n) p.act tt refl (record { passes = refl; bounds = refl; others = refl; seat = refl; sums = refl; fulls = refl; stops = refl; busy = refl; spents = refl; lives = prefix_refl h.seen.lives; infos = prefix_refl h.seen.infos; finds = tt; grants = tt }) k
 
 went_bind : (t : Terms) (y : ActorId) (h : Hand) (e : Event) (s u : ℕ) (p : Ports) (v : Bool) → Kept t y (Acting e (Bind s u)) h → Went t y (bind h e s u p v)
 went_bind t y h e s u p true k = found p.binding
   where
     found : (b : Result (Unit {0}) BindFault) → Went t y (bind_seen h e s u p.act b)
-    found (Ok v) = went_once t y h e (Bind s u) (record h.seen { lives = h.seen.lives ++ s ∷ []; passes = h.seen.passes ++ (s, u) ∷ [] }) BindOk p.act tt refl (record { passes = refl; bounds = refl; others = refl; seat = refl; sums = refl; fulls = refl; stops = refl; busy = refl; spents = refl; lives = prefix_front h.seen.lives (s ∷ []); infos = prefix_refl h.seen.infos; finds = tt; grants = (inl (length h.seen.lives, last_has h.seen.lives s), tt) }) k
+    found (Ok v) = went_once t y h e (Bind s u) (record h.seen { lives = h.seen.lives ++ s ∷ []; passes = h.seen.passes ++ (s, u) ∷ [] }) BindOk p.act tt refl (record { passes = refl; bounds = refl; others = refl; seat = refl; sums = refl; fulls = refl; stops = refl; busy = refl; spents = refl; lives = prefix_front h.seen.lives (s ∷ []); infos = prefix_refl h.seen.infos; finds = tt; grants = (inl (length h.seen.lives, at_end h.seen.lives s (length h.seen.lives) refl), tt) }) k
     found (Err fault.BadUid) = went_once t y h e (Bind s u) h.seen BadUid p.act tt refl (record { passes = refl; bounds = refl; others = refl; seat = refl; sums = refl; fulls = refl; stops = refl; busy = refl; spents = refl; lives = prefix_refl h.seen.lives; infos = prefix_refl h.seen.infos; finds = tt; grants = tt }) k
     found (Err (fault.Other n)) = went_once t y h e (Bind s u) (record h.seen { others = h.seen.others ++ (s, n) ∷ [] }) (NoSession n) p.act tt refl (record { passes = refl; bounds = refl; others = refl; seat = refl; sums = refl; fulls = refl; stops = refl; busy = refl; spents = refl; lives = prefix_refl h.seen.lives; infos = prefix_refl h.seen.infos; finds = tt; grants = tt }) k
     found (Err (fault.Bound v)) = went_once t y h e (Bind s u) (record h.seen { lives = h.seen.lives ++ s ∷ []; bounds = h.seen.bounds ++ (s, v) ∷ [] }) (Bound v) p.act tt refl (record { passes = refl; bounds = refl; others = refl; seat = refl; sums = refl; fulls = refl; stops = refl; busy = refl; spents = refl; lives = prefix_front h.seen.lives (s ∷ []); infos = prefix_refl h.seen.infos; finds = tt; grants = tt }) k
 went_bind t y h e s u p false k = went_once t y h e (Bind s u) h.seen WrongMode p.act tt refl (record { passes = refl; bounds = refl; others = refl; seat = refl; sums = refl; fulls = refl; stops = refl; busy = refl; spents = refl; lives = prefix_refl h.seen.lives; infos = prefix_refl h.seen.infos; finds = tt; grants = tt }) k
 
 -- a task
-fits_place : (t : Terms) (next : ℕ) (d : Dst) (idle : Option ℕ) → FitsDst d (Tasker (tasker_at t next d idle))
-fits_place t next (At k) idle = refl
-fits_place t next Any (Some k) = tt
-fits_place t next Any None = tt
-
 went_post_fit : (t : Terms) (w : ℕ) (h : Hand) (e : Event) (d : Dst) (b : List ℕ) (p : Ports) (v : Bool) → (h.next == 2 ^ 64 - 1) ≡ v → Kept t (Worker w) (Acting e (TaskAct d b)) h → Went t (Worker w) (post_fit t w h e d b p v)
 went_post_fit t w h e d b p true q k = went_once t (Worker w) h e (TaskAct d b) h.seen IdsSpent p.act tt refl (record { passes = refl; bounds = refl; others = refl; seat = refl; sums = refl; fulls = refl; stops = refl; busy = refl; spents = refl; lives = prefix_refl h.seen.lives; infos = prefix_refl h.seen.infos; finds = tt; grants = tt }) k
 went_post_fit t w h e d b p false q k = record { kept = kept_asked t (Worker w) h e (TaskAct d b) h.seen.lives (Tasker (tasker_at t h.next d p.idle)) (EventMsg (Task w h.next b)) (Posted h.next) (CPost w (tasker_at t h.next d p.idle) d b refl (fits_place t h.next d p.idle) (λ r. absurd (grind (arith, nat_tests)))) (prefix_refl h.seen.lives) tt k; fits = refl }

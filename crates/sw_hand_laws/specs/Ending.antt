@@ -3,7 +3,6 @@ use Rattle.std.specs.Prelude.{◌≡◌, ℕ, ◌≤◌, [], ◌∷◌, ◌++◌
 use Rattle.sw_lists.specs.Lists.{collect, Each}
 use Rattle.sw_step.specs.declared.actor.ActorId.{ActorId}
 use Rattle.sw_record.specs.Terms.{Terms}
-use Rattle.sw_record.specs.Counts.{counted}
 use Rattle.sw_past.specs.Messages.{Message, NoMore}
 use Rattle.sw_past.specs.Past.{Mail, bare}
 use Rattle.sw_past.specs.Views.{no_more}

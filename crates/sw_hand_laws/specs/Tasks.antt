@@ -5,8 +5,7 @@ use Rattle.sw_lists.specs.Numbers.{IsCounting}
 use Rattle.sw_step.specs.declared.actor.ActorId.{ActorId}
 use Rattle.sw_step.specs.declared.actor.ActorId.TheVariants.{Worker}
 use Rattle.sw_record.specs.Words.{Done, Log, Dst}
-use Rattle.sw_record.specs.Tasks.{posted_in, task_of, tasks_of, IsPost, now_of, posts}
-use Rattle.sw_record.specs.Places.{places}
+use Rattle.sw_record.specs.Tasks.{posted_in, task_of, tasks_of, IsPost, now_of}
 use Rattle.sw_past.specs.Messages.{Message}
 use Rattle.sw_past.specs.Past.{Mail, bare, of}
 use Rattle.sw_past.specs.Views.{task_in, task_id, finish_in, over_in}
