@@ -16,7 +16,7 @@ use Rattle.sw_world_laws.specs.Turns.{AskPush, AskNothing}
 use Rattle.sw_world_laws.specs.Actors.{Actors}
 use Rattle.sw_world_laws.specs.World.{Step, Goes, Arrive, start, MayRun}
 use Rattle.sw_world_laws.specs.Account.{untouched, coming, account, outside}
-use Rattle.sw_world_laws.specs.Runs.{IsServer, IsRun, ran}
+use Rattle.sw_world_laws.specs.Runs.{ran}
 use Rattle.sw_world_laws.proofs.Mix.{mix}
 use Rattle.sw_world_laws.proofs.Right.{run_right}
 use Rattle.sw_world_door.specs.Doors.{new_door, Reads, Draws}

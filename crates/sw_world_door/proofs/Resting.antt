@@ -1,5 +1,5 @@
 -- Actors that only rest, whose laws hold: beside them the door alone makes a world.
-use Rattle.std.proofs.Common.{◌≡◌, ℕ, true, false, List, [], ◌∷◌, ◌++◌, refl, ap, ◌∙◌, sym, subst, arith, inl}
+use Rattle.std.proofs.Common.{◌≡◌, true, false, List, [], ◌∷◌, ◌++◌, refl, ap, ◌∙◌, sym, subst, arith, inl}
 use Rattle.sw_lists.specs.Lists.{Each}
 use Rattle.sw_lists.proofs.Lists.{append_none}
 use Rattle.sw_step.specs.declared.actor.ActorId.{ActorId}

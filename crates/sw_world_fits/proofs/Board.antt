@@ -1,31 +1,30 @@
 -- Calls on the plain board have the ports' answers, and leave what the ports leave.
-use Rattle.std.proofs.Common.{◌≡◌, ◌≢◌, ◌⊎◌, ℕ, ◌+◌, ◌-◌, ◌<◌, ◌≤◌, ◌%◌, ◌==◌, nat_lt, min, sum, Bool, true, false, if◌then◌else◌, List, [], ◌∷◌, ◌++◌, length, refl, ap, ◌∙◌, sym, subst, arith, inl, inr, Option, Some, None, slice_index_or, slice_set, zero, suc}
+use Rattle.std.proofs.Common.{◌≡◌, ◌≢◌, ℕ, ◌+◌, ◌-◌, ◌<◌, ◌≤◌, ◌%◌, nat_lt, sum, Bool, true, false, if◌then◌else◌, List, [], ◌∷◌, ◌++◌, length, refl, ap, ◌∙◌, sym, subst, arith, inl, inr, Option, Some, None, slice_index_or, slice_set, zero, suc}
 use Rattle.std.proofs.lemmas.Bool.Decides.{nat_tests}
-use Rattle.std.proofs.lemmas.Bool.{cases_lt}
 use Rattle.std.proofs.lemmas.List.{get_or-set_same, get_or-set_other, length-set}
 use Rattle.std.proofs.lemmas.List.Sums.{sum_by-append}
 use native.Mathlib.Nat.{mod-lt}
-use Rattle.sw_lists.proofs.Lists.{eq_is, eq_same, eq_other, equal_or_not}
+use Rattle.sw_lists.proofs.Lists.{equal_or_not}
 use Rattle.sw_step.specs.declared.actor.ActorId.{ActorId}
 use Rattle.sw_step.specs.declared.actor.ActorId.TheVariants.{Door, Reactor, Worker, Tasker}
 use Rattle.sw_step.specs.Actors.{is}
-use Rattle.sw_join.proofs.Routes.{is_same, is_refl, is_other}
+use Rattle.sw_join.proofs.Routes.{is_same, is_refl}
 use Rattle.sw_port_board.specs.declared.crew.Crew.{Crew}
 use Rattle.sw_port_board.specs.declared.crew.Crew.TheVariants.{Workers, Taskers}
 use Rattle.sw_port_board.specs.declared.board.BoardStep.{BoardStep}
-use Rattle.sw_port_board.specs.declared.board.BoardStep.TheVariants.{Marked, Found, Stopped, SawStop, Added, Read}
+use Rattle.sw_port_board.specs.declared.board.BoardStep.TheVariants.{Marked, Found, Stopped, SawStop, Added}
 use Rattle.sw_port_board.specs.declared.counts.Counts.{Counts}
-use Rattle.sw_port_board.specs.Board.{members, first_of, capped as capped_min, counter_number, found_busy, FindsIdle, reads_from, reads, SumsUp}
-use Rattle.sw_port_board.specs.PlainBoard.{PlainWords, no_counts, count_of, counted, plain_after, PlainShows, PlainGoes}
+use Rattle.sw_port_board.specs.Board.{members, capped as capped_min, found_busy, FindsIdle, reads_from, SumsUp}
+use Rattle.sw_port_board.specs.PlainBoard.{PlainWords, no_counts, count_of, counted, plain_after, PlainGoes}
 use Rattle.sw_record.specs.Words.{Counter, AcceptedCount, EndedCount, PacketsCount, SendsCount, TasksCount, FinishesCount}
 use Rattle.sw_record.specs.Counts.{greatest}
 use Rattle.sw_record.specs.Terms.{Terms}
 use Rattle.sw_record.specs.Places.{Ran}
 use Rattle.sw_past.specs.Routes.{crew, hands}
-use Rattle.sw_world_ports.specs.Calls.{Did, Marks, Idles, Stops, SeesStop, Adds, Sums}
+use Rattle.sw_world_ports.specs.Calls.{Marks, Idles, Stops, SeesStop, Adds, Sums}
 use Rattle.sw_world_ports.specs.Made.{same_counter}
-use Rattle.sw_world_ports.specs.Ports.{Ports, set_at, added, capped, sum_of, everyone, idle_by, idle_one, Answers, ported}
-use Rattle.sw_world_ports.proofs.Counters.{counter_is, counter_other}
+use Rattle.sw_world_ports.specs.Ports.{Ports, capped, sum_of, everyone, idle_by, Answers, ported}
+use Rattle.sw_world_ports.proofs.Counters.{counter_is}
 use Rattle.sw_world_fits.specs.Board.{number_of, IsThere, of_taskers, BoardStands}
 
 -- the stop word

@@ -1,21 +1,20 @@
 -- Calls on the plain book have the ports' answers, and leave what the ports leave.
 use Rattle.std.proofs.Common.{◌≡◌, ◌≢◌, ℕ, ◌+◌, ◌<◌, ◌≤◌, ◌%◌, ◌==◌, Bool, true, false, if◌then◌else◌, List, length, refl, ap, ◌∙◌, sym, subst, arith, Ok, Err, zero, suc}
-use Rattle.std.proofs.lemmas.Bool.Decides.{nat_tests}
 use Rattle.std.proofs.lemmas.List.{get_or-set_same, get_or-set_other, length-set}
 use native.Mathlib.Nat.{mod-lt}
-use Rattle.sw_lists.proofs.Lists.{eq_is, eq_same, eq_other}
+use Rattle.sw_lists.proofs.Lists.{eq_is, eq_same}
 use Rattle.sw_step.specs.declared.actor.ActorId.{ActorId}
 use Rattle.sw_record.specs.Terms.{Terms}
 use Rattle.sw_record.specs.Places.{Ran}
-use Rattle.sw_past.specs.Claims.{Claim, Drew, Full, Spent}
+use Rattle.sw_past.specs.Claims.{Claim, Drew, Spent}
 use Rattle.sw_port_book.specs.declared.word.Word.{Word}
 use Rattle.sw_port_book.specs.Answers.{look_answer, bind_answer}
 use Rattle.sw_port_book.specs.declared.answers.ClaimFault.TheVariants as fault
 use Rattle.sw_port_book.specs.declared.answers.BindFault.TheVariants as bind
 use Rattle.sw_port_book.specs.declared.answers.Look.TheVariants as look
 use Rattle.sw_port_book.specs.Plain.{Words, free, word_in, word_of, with_word, bound, Claimed, drawn, taken, claim_in, plain_claim}
-use Rattle.sw_world_ports.specs.Calls.{Did, Looks, Lives, Other, Binds, Granted, ZeroUid, Had, NotThere, Frees, Accepts}
-use Rattle.sw_world_ports.specs.Ports.{Ports, claim_by, claimed, words_by, set, SeesIt, BindsIt, bound_by, Answers, ported}
+use Rattle.sw_world_ports.specs.Calls.{Looks, Binds, ZeroUid, Frees, Accepts}
+use Rattle.sw_world_ports.specs.Ports.{Ports, claim_by, claimed, words_by, set, SeesIt, Answers, ported}
 use Rattle.sw_world_fits.specs.Book.{SlotsStand, BookStands, seen_of, got_of, claim_of}
 
 -- the word of a session

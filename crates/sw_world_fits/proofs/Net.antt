@@ -1,8 +1,8 @@
 -- Accepts of the net in memory are the ports' answers, and leave what the ports leave.
-use Rattle.std.proofs.Common.{◌≡◌, ℕ, ◌+◌, min, Bool, true, false, if◌then◌else◌, List, [], ◌∷◌, ◌++◌, refl, ap, ◌∙◌, sym, subst, Option, None}
+use Rattle.std.proofs.Common.{◌≡◌, ℕ, ◌+◌, min, Bool, true, false, if◌then◌else◌, List, [], ◌∷◌, ◌++◌, refl, ap, ◌∙◌, sym, subst, None}
 use Rattle.sw_causes.specs.Causes.{most}
 use Rattle.sw_link.specs.declared.net.Accept.{Accept}
-use Rattle.sw_link.specs.declared.net.Accept.TheVariants.{Got, NotYet, End, Failed}
+use Rattle.sw_link.specs.declared.net.Accept.TheVariants.{NotYet, End, Failed}
 use Rattle.sw_link.specs.declared.memory_link.MemoryLink.{MemoryLink}
 use Rattle.sw_link.specs.MemoryNets.{Plan, Accepted, is_number, accept_next, counted_accept, memory_accept, AcceptsBy, with_link, closed}
 use Rattle.sw_world_fits.specs.Net.{addresses, NetStands, AcceptIs, waits_then}

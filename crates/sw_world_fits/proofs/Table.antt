@@ -1,5 +1,5 @@
 -- Calls of the plain Table have the ports' answers, and leave what the ports leave.
-use Rattle.std.proofs.Common.{◌≡◌, ◌⊎◌, ℕ, ◌+◌, ◌<◌, ◌≤◌, nat_eq, nat_le, ◌&&◌, Bool, true, false, if◌then◌else◌, List, [], ◌∷◌, ◌++◌, length, refl, ap, ◌∙◌, sym, subst, arith, inl, inr, Option, Some, None, Ok, Err, ℤ, pos, negsuc}
+use Rattle.std.proofs.Common.{◌≡◌, ℕ, ◌<◌, ◌≤◌, nat_eq, Bool, true, false, if◌then◌else◌, List, [], ◌∷◌, ◌++◌, refl, ap, ◌∙◌, sym, subst, arith, Option, Some, None, Ok, Err}
 use Rattle.std.proofs.lemmas.Bool.Decides.{nat_tests}
 use Rattle.std.specs.FinMap as map
 use Rattle.sw_base.specs.declared.table.Value.{Value}
@@ -17,13 +17,13 @@ use Rattle.sw_lists.proofs.Lists.{length_append}
 use Rattle.sw_port_shelf.specs.declared.shelf.Placed.{Placed}
 use Rattle.sw_port_shelf.specs.Shelf.{is_of_place}
 use Rattle.sw_table_laws.specs.Table.{State, Shape, TStep, Entry, left_by, LegalFrom, Legal, after}
-use Rattle.sw_tmodel.specs.Plain.{PlainTable, shape_of, spent_fault, plain_fault, IsCall}
+use Rattle.sw_tmodel.specs.Plain.{PlainTable, shape_of, spent_fault, IsCall}
 use Rattle.sw_step.specs.declared.actor.ActorId.{ActorId}
 use Rattle.sw_record.specs.Terms.{Terms}
 use Rattle.sw_record.specs.Places.{Ran}
 use Rattle.sw_join.specs.Legal.{entries, LegalFor}
-use Rattle.sw_world_ports.specs.Calls.{Did, Tables, TableRefuses}
-use Rattle.sw_world_ports.specs.Ports.{Ports, RefusesIt, Answers, ported}
+use Rattle.sw_world_ports.specs.Calls.{Tables, TableRefuses}
+use Rattle.sw_world_ports.specs.Ports.{Ports, RefusesIt, Answers}
 use Rattle.sw_world_fits.specs.Table.{TableStands, ran_of}
 
 -- one call more

@@ -1,5 +1,5 @@
 -- The net in memory as the ports have it; it doesn't fail.
-use Rattle.std.specs.Prelude.{◌≡◌, ℕ, Bool, true, false, List, [], ◌∷◌, Option, None}
+use Rattle.std.specs.Prelude.{◌≡◌, ℕ, Bool, true, false, List, [], ◌∷◌, None}
 use Rattle.sw_link.specs.declared.net.Accept.{Accept}
 use Rattle.sw_link.specs.declared.net.Accept.TheVariants.{Got, NotYet, End, Failed}
 use Rattle.sw_link.specs.declared.memory_link.MemoryLink.{MemoryLink}

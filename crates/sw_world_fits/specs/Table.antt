@@ -1,5 +1,5 @@
 -- The plain Table as the ports have it: its rows are what the calls so far leave.
-use Rattle.std.specs.Prelude.{◌≡◌, ℕ, ◌≤◌, List, length}
+use Rattle.std.specs.Prelude.{◌≡◌, ◌≤◌, List, length}
 use Rattle.sw_base.specs.declared.table.Call.{Call}
 use Rattle.sw_base.specs.declared.table.Reply.{Reply}
 use Rattle.sw_table_laws.specs.Table.{Shape, TStep, after}

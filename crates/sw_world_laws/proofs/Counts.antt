@@ -4,10 +4,9 @@ use Rattle.sw_lists.specs.Lists.{collect, when, Each, Has}
 use Rattle.sw_lists.specs.Numbers.{Distinct, sum_below}
 use Rattle.sw_lists.proofs.Lists.{each_more, length_append, each_append}
 use Rattle.sw_step.specs.declared.actor.ActorId.{ActorId}
-use Rattle.sw_step.specs.declared.actor.ActorId.TheVariants.{Door, Reactor, Worker, Tasker}
-use Rattle.sw_record.specs.declared.record.Record.{Record}
+use Rattle.sw_step.specs.declared.actor.ActorId.TheVariants.{Door, Reactor}
 use Rattle.sw_record.specs.Terms.{Terms, reactor_of}
-use Rattle.sw_record.specs.Counts.{total, counted, tally, count_in, CountsRight}
+use Rattle.sw_record.specs.Counts.{total, counted, tally, count_in}
 use Rattle.sw_record.specs.Answers.{answers_of}
 use Rattle.sw_past.specs.Past.{bare}
 use Rattle.sw_past.specs.Views.{fresh_in}
@@ -16,7 +15,6 @@ use Rattle.sw_join.specs.Counts.{CountLaws}
 use Rattle.sw_join.proofs.Merged.{hands_are, crew_are}
 use Rattle.sw_record.specs.Places.{Ran}
 use Rattle.sw_record.specs.Words.{Counter, AcceptedCount, EndedCount, PacketsCount, SendsCount, TasksCount, FinishesCount}
-use Rattle.sw_join.specs.Modes.{AimOf, EndOf}
 use Rattle.sw_world_ports.specs.Calls.{Did, Accepts, NoLink, NetOver, Looks, Binds, Frees, Marks, Idles, Stops, SeesStop, Adds, Sums, Tables, MayDo, MayAdd, IsReactor, TableRefuses}
 use Rattle.sw_world_ports.specs.Made.{add_in, sum_in, free_in, accept_in, firsts}
 use Rattle.sw_world_ports.specs.Ports.{sum_of, everyone}

@@ -5,18 +5,16 @@ use Rattle.sw_lists.specs.Lists.{collect, IsPrefix, Each, Has}
 use Rattle.sw_lists.proofs.Lists.{length_append, prefix_refl, each_more, collect-collect, collect-same}
 use Rattle.sw_step.specs.declared.actor.ActorId.{ActorId}
 use Rattle.sw_step.specs.declared.actor.ActorId.TheVariants.{Door, Reactor, Worker, Tasker}
-use Rattle.sw_record.specs.Words.{Shutdown, Connect, Packet, Closed, Finish, Task, Ended}
-use Rattle.sw_record.specs.declared.record.LinkRecord.{LinkRecord}
+use Rattle.sw_record.specs.Words.{Shutdown, Connect, Packet, Closed, Finish, Task}
 use Rattle.sw_record.specs.Terms.{Terms}
 use Rattle.sw_record.specs.Causes.{IsAsked}
 use Rattle.sw_record.specs.Answers.{answers_of}
 use Rattle.sw_record.specs.Uids.{the_uid, bound_in, info_in}
 use Rattle.sw_past.specs.Claims.{Claim, drew_in}
 use Rattle.sw_past.specs.Messages.{Message, FreshMsg, SendMsg, CloseMsg, ResetMsg, Bye, EventMsg, OverMsg, NoMore}
-use Rattle.sw_past.specs.Past.{Mail, Past, bare, of}
+use Rattle.sw_past.specs.Past.{Mail, bare, of}
 use Rattle.sw_past.specs.Views.{fresh_in, no_more}
 use Rattle.sw_past.specs.Routes.{IsHand, MayPush, crew}
-use Rattle.sw_join.specs.Laws.{IsKept, Locals}
 use Rattle.sw_join.specs.Sessions.{WordLaws}
 use Rattle.sw_join.specs.Causes.{Looks, CauseLaws}
 use Rattle.sw_join.specs.Uids.{UidLaws}

@@ -16,7 +16,7 @@ use Rattle.sw_past.specs.Past.{Mail, bare, of, with}
 use Rattle.sw_past.specs.Views.{heard_in, task_id, finish_in}
 use Rattle.sw_past.specs.Routes.{IsHand}
 use Rattle.sw_join.specs.Steps.{put}
-use Rattle.sw_join.proofs.Routes.{is_same, of_own}
+use Rattle.sw_join.proofs.Routes.{of_own}
 use Rattle.sw_join.proofs.Steps.{pipes}
 use Rattle.sw_world_ports.specs.Made.{seat_in}
 use Rattle.sw_world_ports.specs.Law.{all_in}

@@ -1,9 +1,7 @@
 -- Two families of actors make one: the actors of the first, and those of the second that the first leaves.
-use Rattle.std.proofs.Common.{◌≡◌, ◌⊎◌, ℕ, Bool, true, false, if◌then◌else◌, List, [], refl, inl, inr}
+use Rattle.std.proofs.Common.{◌≡◌, ◌⊎◌, Bool, true, false, if◌then◌else◌, List, [], refl, inl, inr}
 use Rattle.sw_lists.specs.Lists.{Each}
 use Rattle.sw_step.specs.declared.actor.ActorId.{ActorId}
-use Rattle.sw_record.specs.declared.record.LinkRecord.{LinkRecord}
-use Rattle.sw_record.specs.Words.{Log}
 use Rattle.sw_record.specs.Terms.{Terms}
 use Rattle.sw_world_ports.specs.Calls.{Did, MayDo}
 use Rattle.sw_world_laws.specs.Turns.{Ask, AskTake, AskPush, AskNothing, AskRest, AskFinished, Got, GotStart, Diary, no_diary, with_dids, After}

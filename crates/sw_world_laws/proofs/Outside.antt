@@ -1,15 +1,14 @@
 -- Each link that ended shows its cause, by what its reactor's law shows of it.
-use Rattle.std.proofs.Common.{◌≡◌, ℕ, ◌<◌, ◌≤◌, Bool, List, [], ◌∷◌, ◌++◌, refl, ap, ◌∙◌, sym, subst, Option, Some, slice_get, zero, suc}
+use Rattle.std.proofs.Common.{◌≡◌, ℕ, ◌≤◌, Bool, List, [], ◌∷◌, ◌++◌, refl, ap, ◌∙◌, sym, subst, Option, Some, slice_get, zero, suc}
 use Rattle.sw_lists.specs.Lists.{collect, Has}
 use Rattle.sw_step.specs.declared.actor.ActorId.TheVariants.{Door, Reactor}
 use Rattle.sw_record.specs.declared.record.LinkRecord.{LinkRecord}
-use Rattle.sw_record.specs.declared.record.LinkState.{LinkState}
-use Rattle.sw_record.specs.declared.record.LinkState.TheVariants.{Live, Over}
-use Rattle.sw_record.specs.Words.{NoSlot, NumbersSpent, Cause, Ended}
-use Rattle.sw_record.specs.Terms.{Terms, Outside, reactor_of, session_of}
+use Rattle.sw_record.specs.declared.record.LinkState.TheVariants.{Over}
+use Rattle.sw_record.specs.Words.{NoSlot, NumbersSpent, Ended}
+use Rattle.sw_record.specs.Terms.{Terms, reactor_of}
 use Rattle.sw_record.specs.Causes.{ShowsCause, LinksShow}
 use Rattle.sw_record.specs.Places.{Ran}
-use Rattle.sw_past.specs.Claims.{Claim, Drew, Full, Spent}
+use Rattle.sw_past.specs.Claims.{Claim}
 use Rattle.sw_past.specs.Past.{Past}
 use Rattle.sw_world_ports.specs.Made.{accept_in}
 use Rattle.sw_world_laws.specs.Shows.{Tells}

@@ -1,14 +1,13 @@
 -- The places that a log was told are those of its calls of the Table.
-use Rattle.std.proofs.Common.{◌≡◌, ◌⊎◌, ℕ, ◌+◌, ◌<◌, ◌≤◌, List, [], ◌∷◌, ◌++◌, length, refl, ap, ◌∙◌, sym, subst, arith, inl, inr}
-use Rattle.sw_base.specs.declared.table.CallFault.TheVariants.{Busy, Spent as PlacesSpent, BadKey, NoColumn, NotInt, BadValue, Range}
+use Rattle.std.proofs.Common.{◌≡◌, ◌⊎◌, ℕ, ◌≤◌, List, [], ◌∷◌, ◌++◌, length, refl, ap, ◌∙◌, sym, subst, arith, inl, inr}
 use Rattle.sw_base.specs.declared.table.Value.{Value}
 use Rattle.sw_base.specs.declared.table.Reply.{Reply}
 use Rattle.sw_lists.specs.Lists.{collect, Each}
-use Rattle.sw_lists.proofs.Lists.{collect-append, each_append, each_more, length_append}
+use Rattle.sw_lists.proofs.Lists.{collect-append, length_append}
 use Rattle.sw_step.specs.declared.actor.ActorId.{ActorId}
 use Rattle.sw_record.specs.Words.{Act, Send, Close, Reset, Bind, Exist, Info, TaskAct, FinishAct, Table, Stats, Shutdown, Done, Answer, Sent, Asked, BindOk, Exists, InfoIs, Posted, Finished, TableIs, TableRefused, Count, NoSession, Bound, BadUid, WrongMode, TaskFull, BadTarget, NoTaskWorkers, IdsSpent, NotHere, NoTable, Given, EventGiven, AnswerGiven, Log}
 use Rattle.sw_record.specs.Terms.{Terms}
-use Rattle.sw_record.specs.Answers.{answers_after, answers_of}
+use Rattle.sw_record.specs.Answers.{answers_after}
 use Rattle.sw_record.specs.Dialogue.{MayAnswer, MayFollow, Dialogue, DialogueAfter}
 use Rattle.sw_record.specs.Places.{Ran, place_in, placed, at_of, places}
 use Rattle.sw_record.specs.AfterSeen.{told_place, place_of, told_places}

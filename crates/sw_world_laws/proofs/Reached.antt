@@ -1,5 +1,5 @@
 -- THE CORE: wherever steps lead from the start, the law holds.
-use Rattle.std.proofs.Common.{if◌then◌else◌, ◌≡◌, ℕ, ◌<◌, ◌^◌, Bool, true, false, List, [], ◌∷◌, refl, sym, arith, inl}
+use Rattle.std.proofs.Common.{if◌then◌else◌, ◌≡◌, ◌<◌, ◌^◌, Bool, true, false, List, [], ◌∷◌, refl, sym, arith, inl}
 use Rattle.sw_lists.proofs.Lists.{append_none}
 use Rattle.sw_step.specs.declared.actor.ActorId.{ActorId}
 use Rattle.sw_record.specs.Terms.{Terms}

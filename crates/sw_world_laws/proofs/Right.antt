@@ -1,6 +1,5 @@
 -- THE WORLD: the record of each run is right, in order even where memory was wanted, and drained once all actors are finished.
-use Rattle.std.proofs.Common.{◌≡◌, ℕ, ◌≤◌, false, List, [], sym, subst}
-use Rattle.sw_lists.specs.Lists.{collect}
+use Rattle.std.proofs.Common.{◌≡◌, ◌≤◌, false, List, sym, subst}
 use Rattle.sw_record.specs.declared.record.Record.{Record}
 use Rattle.sw_record.specs.Terms.{Terms}
 use Rattle.sw_record.specs.Places.{Ran}

@@ -1,16 +1,14 @@
 -- Mode 1: where all actors are finished, packets went round the workers.
-use Rattle.std.proofs.Common.{◌≡◌, ℕ, ◌<◌, ◌≤◌, ◌==◌, Bool, true, false, List, [], ◌∷◌, ◌++◌, length, refl, subst, append-nil, Some}
+use Rattle.std.proofs.Common.{◌≡◌, ℕ, ◌≤◌, ◌==◌, Bool, true, false, List, [], ◌∷◌, ◌++◌, refl, subst, append-nil}
 use Rattle.sw_lists.specs.Lists.{collect, when, Each, Has}
 use Rattle.sw_lists.specs.Perm.{Perm}
 use Rattle.sw_lists.proofs.Lists.{perm_has}
-use Rattle.sw_step.specs.declared.actor.ActorId.{ActorId}
 use Rattle.sw_step.specs.declared.actor.ActorId.TheVariants.{Reactor, Worker}
 use Rattle.sw_record.specs.declared.record.LinkState.TheVariants.{Over}
 use Rattle.sw_record.specs.Words.{Ended}
 use Rattle.sw_record.specs.declared.record.LinkRecord.{LinkRecord}
 use Rattle.sw_record.specs.Terms.{Terms, reactor_of, HasLink, session_of}
-use Rattle.sw_record.specs.declared.record.Record.{Record}
-use Rattle.sw_record.specs.Whole.{IsAllCut, IsOwnEnd}
+use Rattle.sw_record.specs.Whole.{IsOwnEnd}
 use Rattle.sw_record.specs.Sessions.{some_of}
 use Rattle.sw_record.specs.Rounds.{at_reactor, link_of}
 use Rattle.sw_record.specs.Places.{Ran}

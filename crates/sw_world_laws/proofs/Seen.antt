@@ -1,24 +1,24 @@
 -- The marks show that calls of the Table come behind those that were seen.
-use Rattle.std.proofs.Common.{◌≡◌, ◌⊎◌, ℕ, ◌+◌, ◌<◌, ◌≤◌, Bool, true, false, if◌then◌else◌, ◌==◌, List, [], ◌∷◌, ◌++◌, length, refl, ap, ◌∙◌, sym, subst, append-nil, append_assoc, arith, inl, inr, zero, suc, slice_get, Some}
-use Rattle.sw_lists.specs.Lists.{collect, when, IsPrefix, Each, Has}
+use Rattle.std.proofs.Common.{◌≡◌, ◌⊎◌, ℕ, ◌+◌, ◌<◌, ◌≤◌, Bool, true, false, if◌then◌else◌, ◌==◌, List, [], ◌∷◌, ◌++◌, length, refl, ap, ◌∙◌, sym, subst, append-nil, append_assoc, arith, inl, inr, zero, suc}
+use Rattle.sw_lists.specs.Lists.{collect, IsPrefix, Each, Has}
 use Rattle.sw_lists.specs.Numbers.{IsCounting}
 use Rattle.sw_lists.proofs.Lists.{eq_same, collect-append, collect-collect, collect-same, append_none, prefix_length, each_left, each_right, length_append}
 use Rattle.sw_step.specs.declared.actor.ActorId.{ActorId}
 use Rattle.sw_step.specs.declared.actor.ActorId.TheVariants.{Door, Reactor, Worker, Tasker}
-use Rattle.sw_record.specs.Words.{Event, Connect, Packet, Closed, Finish, Task, Act, Send, Close, Reset, Bind, Exist, Info, TaskAct, FinishAct, Table, Stats, Shutdown, Done, Dst, Answer, Sent, Asked, BindOk, Exists, InfoIs, Posted, Finished, TableIs, TableRefused, Count, NoSession, Bound, BadUid, WrongMode, TaskFull, BadTarget, NoTaskWorkers, IdsSpent, NotHere, NoTable, Given, EventGiven, AnswerGiven, Log}
+use Rattle.sw_record.specs.Words.{Event, Connect, Packet, Closed, Finish, Task, Act, Send, Close, Reset, Bind, Exist, Info, TaskAct, FinishAct, Table, Stats, Shutdown, Done, Sent, Asked, BindOk, Exists, InfoIs, Posted, Finished, TableIs, TableRefused, Count, NoSession, Bound, BadUid, WrongMode, TaskFull, BadTarget, NoTaskWorkers, IdsSpent, NotHere, NoTable, Given, EventGiven, AnswerGiven, Log}
 use Rattle.sw_record.specs.Terms.{Terms}
 use Rattle.sw_record.specs.Logs.{event_of, events_of, numbers}
 use Rattle.sw_record.specs.Places.{Ran}
 use Rattle.sw_record.specs.Tasks.{post_of, posted_by, posts, posted_in, tasks_of, finish_of, finishes_of, gave_by, now_then, give_of, made, among, only}
 use Rattle.sw_record.specs.AfterSeen.{place_of as place_told, told_places, IsPostedNext, IsPostedAt, IsMadeAt}
 use Rattle.sw_past.specs.Messages.{Message, FreshMsg, SendMsg, CloseMsg, ResetMsg, Bye, EventMsg, OverMsg, NoMore}
-use Rattle.sw_past.specs.Past.{Mail, Past, bare, of}
+use Rattle.sw_past.specs.Past.{Mail, bare, of}
 use Rattle.sw_past.specs.Views.{for_hand, heard_in, finish_in}
 use Rattle.sw_past.specs.Said.{last_after, posted_after, now_after, given_after}
 use Rattle.sw_past.specs.Routes.{MayPush}
 use Rattle.sw_join.specs.Modes.{AimOf, EndOf}
 use Rattle.sw_join.specs.Seen.{IsMarked, SeenLaws}
-use Rattle.sw_join.proofs.Talking.{posts_settled, made_settled, given_more, posted_more}
+use Rattle.sw_join.proofs.Talking.{posts_settled, made_settled, given_more}
 use Rattle.sw_join.proofs.Tasks.{heard_finish, only_share, sorted}
 use Rattle.sw_join.proofs.Told.{took_all}
 use Rattle.sw_world_laws.specs.Actors.{Actors}

@@ -1,11 +1,11 @@
 -- Runs: any list of steps from the start.
-use Rattle.std.specs.Prelude.{◌≡◌, ℕ, ◌<◌, ◌≤◌, ◌^◌, true, List, []}
+use Rattle.std.specs.Prelude.{◌≡◌, ◌<◌, ◌≤◌, ◌^◌, true, List, []}
 use Rattle.sw_step.specs.declared.actor.ActorId.{ActorId}
 use Rattle.sw_record.specs.Terms.{Terms}
 use Rattle.sw_record.specs.Places.{Ran}
 use Rattle.sw_world_laws.specs.Turns.{AskFinished}
 use Rattle.sw_world_laws.specs.Actors.{Actors}
-use Rattle.sw_world_laws.specs.World.{Pending, Waits, Core, Step, there, start, run, MayRun}
+use Rattle.sw_world_laws.specs.World.{Waits, Core, Step, there, start, run, MayRun}
 
 -- the settings have a mode there is, and a reactor and a worker at least
 pub record IsServer (t : Terms) : Type 0 where

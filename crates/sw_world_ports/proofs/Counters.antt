@@ -1,5 +1,5 @@
 -- Two counters are the same by their numbers.
-use Rattle.std.proofs.Common.{◌≡◌, ℕ, ◌==◌, true, false, refl, ap, ◌∙◌, sym, zero, suc}
+use Rattle.std.proofs.Common.{◌≡◌, ℕ, true, false, refl, ap, ◌∙◌, sym, zero, suc}
 use Rattle.sw_lists.proofs.Lists.{eq_is, eq_same, eq_other}
 use Rattle.sw_port_board.specs.Board.{counter_number}
 use Rattle.sw_record.specs.Words.{Counter, AcceptedCount, EndedCount, PacketsCount, SendsCount, TasksCount, FinishesCount}
