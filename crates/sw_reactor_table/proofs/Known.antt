@@ -170,7 +170,7 @@ runs_all word t _ _ _ (First starved a f) = chosen_known word t a started f (rec
 runs_all word t _ _ _ (Then {took = took} {pushed = pushed} {r = r} before later more got call starved a f) =
     (let h : AllKnown word r = runs_all word t took pushed r before in
     chosen_known word t a (settled t starved got r) f
-      (record { conns = settled_each t (Known word) (settled_known word t) starved got r h.conns; over = subst (Each (TellsUid word)) (sym (settled_over t starved got r)) h.over }) r.last)
+    (record { conns = settled_each t (Known word) (settled_known word t) starved got r h.conns; over = subst (Each (TellsUid word)) (sym (settled_over t starved got r)) h.over }) r.last)
 
 pub runs_known : (word : ℕ → ℕ) (t : Terms) (took pushed : Mail) (r : Reactor) → Runs t word took pushed r → Each (Known word) (all r)
 runs_known word t took pushed r run = (runs_all word t took pushed r run).conns
