@@ -40,8 +40,8 @@ struct Round {
     clear: u128,
 }
 
-/// Adds entries and takes them out again.
-fn round<R: Clock>(rt: &R, timers: &mut Timers, seed: u64) -> io::Result<Round> {
+/// Adds entries and takes them out again, and tells how long both took.
+fn measure<R: Clock>(rt: &R, timers: &mut Timers, seed: u64) -> io::Result<Round> {
     let mut last = 0;
     let start = Instant::now(rt)?;
     for at in 0..BATCH {
@@ -82,7 +82,7 @@ fn figure<R: Print + Clock>(rt: &R, alloc: Global, entries: u64) -> io::Result<(
     let mut add = 0u128;
     let mut clear = 0u128;
     for at in 0..ROUNDS {
-        let one = round(rt, &mut timers, at.wrapping_mul(BATCH))?;
+        let one = measure(rt, &mut timers, at.wrapping_mul(BATCH))?;
         add = add.saturating_add(one.add);
         clear = clear.saturating_add(one.clear);
     }
