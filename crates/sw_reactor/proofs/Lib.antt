@@ -1,0 +1,5 @@
+pub mod Keeping
+pub mod Slots
+pub mod Kept
+pub mod Apart
+pub mod Links
