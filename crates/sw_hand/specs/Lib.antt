@@ -1,0 +1,12 @@
+pub mod Ports
+pub mod House
+pub mod Stage
+pub mod Hand
+pub mod Hearing
+pub mod Asking
+pub mod Reaching
+pub mod Posting
+pub mod Calling
+pub mod Leaving
+pub mod Taking
+pub mod Turn
