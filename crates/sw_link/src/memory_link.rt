@@ -47,7 +47,7 @@ pub struct MemoryLink {
 }
 
 impl MemoryLink {
-    ghost use Rattle.sw_link.specs.Memory.{new_link, added, with_bytes, room_for, faulty, gave, end_by, next_read, took, IsReadBy, IsWriteBy};
+    ghost use Rattle.sw_link.specs.Memory.{new_link, told_of, added, with_bytes, room_for, faulty, gave, end_by, next_read, took, IsReadBy, IsWriteBy};
     ghost use Rattle.sw_link.specs.Reads.{read_of, IsReadOf, IsWriteOf};
 
     /// A link without a script, of which nothing was read and on which nothing was written. It takes no memory.
@@ -92,6 +92,20 @@ impl MemoryLink {
             LinkStep::FailRead(n) => self.failing_reads.push(n),
             LinkStep::FailWrite(n) => self.failing_writes.push(n),
         }
+    }
+
+    /// The pieces that were read, in order.
+    pub fn pieces(&self) -> &Pieces
+        ensures { result.now ≡ (told_of self.now).pieces }
+    {
+        &self.pieces
+    }
+
+    /// The bytes that were written.
+    pub fn written(&self) -> &Octets
+        ensures { result.now ≡ (told_of self.now).written }
+    {
+        &self.written
     }
 
     fn add_piece(&mut self, bytes: Octets) -> Result<(), OutOfMemory>

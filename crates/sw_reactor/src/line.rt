@@ -63,6 +63,22 @@ impl<L, K> Line<L, K> {
         session.number() as usize % self.slots.len()
     }
 
+    /// Lends the link of the connection of a session, if there is one.
+    pub fn link_mut(&mut self, session: Session) -> Option<&mut L>
+    {
+        let slot = self.slot_of(session);
+        match &mut self.slots[slot] {
+            Some(conn) => {
+                if conn.session.number() == session.number() {
+                    Some(&mut conn.link)
+                } else {
+                    None
+                }
+            }
+            None => None,
+        }
+    }
+
     /// A send for a session.
     pub fn take_send(&mut self, terms: Terms, session: Session, bytes: Octets)
         ensures { AtSession self.old session (λ c d. (starved : Bool) × (d ≡ sent terms starved bytes c)) self.new }

@@ -58,6 +58,11 @@ impl<L, K> Reactor<L, K> {
         self.lost
     }
 
+    /// Lends the link of the connection of a session, if there is one.
+    pub fn link_mut(&mut self, session: Session) -> Option<&mut L> {
+        self.line.link_mut(session)
+    }
+
     /// How many connections there are.
     pub fn count(&self) -> usize
         ensures { result ≡ length self.now.line.conns }
