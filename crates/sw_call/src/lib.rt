@@ -12,5 +12,5 @@ mod verbs;
 pub use answer::{Replied, reply};
 pub use calls::{call, verb};
 pub use column_texts::{Columns, Refused, columns, schema};
-pub use values::value;
+pub use values::{octets, value};
 pub use verbs::Verb;

@@ -8,7 +8,8 @@ use std::alloc::Global;
 use sw_base::{Cells, Octets, OutOfMemory, Value};
 use sw_text::{bytes, signed};
 
-fn octets(alloc: Global, digits: &[u8]) -> Result<Option<Octets>, OutOfMemory>
+/// The bytes that pairs of digits spell; no bytes where no digit stands there. None exactly where the text is no such pairs.
+pub fn octets(alloc: Global, digits: &[u8]) -> Result<Option<Octets>, OutOfMemory>
     ensures { IfOk result (λ t. t ≡ octets_of digits.now) }
 {
     match digits {

@@ -2,10 +2,10 @@
 ghost use Rattle.std.specs.Prelude.{◌≡◌};
 ghost use Rattle.sw_call.specs.Calls.{call_on};
 
-use sw_base::{Call, Key, Name, Pairs};
+use sw_base::{Call, Key, Name, OutOfMemory, Pairs, TryCopy};
 
 /// What a call asks of a key: the call without its key, for texts that name keys in other ways than by digits.
-#[derive(Drop)]
+#[derive(Drop, Debug)]
 pub enum Verb {
     Set(Pairs),
     Get,
@@ -27,6 +27,19 @@ impl Verb {
             Verb::Del => Call::Del(key),
             Verb::Incr(name, by) => Call::Incr(key, name, by),
             Verb::Decr(name, by) => Call::Decr(key, name, by),
+        }
+    }
+}
+
+impl TryCopy for Verb {
+    fn try_copy(&self) -> Result<Verb, OutOfMemory> {
+        match self {
+            Verb::Set(pairs) => Ok(Verb::Set(pairs.copy()?)),
+            Verb::Get => Ok(Verb::Get),
+            Verb::Exist => Ok(Verb::Exist),
+            Verb::Del => Ok(Verb::Del),
+            Verb::Incr(name, by) => Ok(Verb::Incr(name.copy()?, *by)),
+            Verb::Decr(name, by) => Ok(Verb::Decr(name.copy()?, *by)),
         }
     }
 }

@@ -1,0 +1,35 @@
+//! The cases one by one, each by its kind.
+
+use crate::case::Case;
+use crate::script;
+use std::alloc::Global;
+use sw_base::OutOfMemory;
+
+fn put_case(alloc: Global, out: &mut String, case: &Case) -> Result<(), OutOfMemory> {
+    if case.name.is_empty() {
+        return Ok(());
+    }
+    writeln!(out, "\ncase {}", case.name)?;
+    let (kind, _words) = case.kind.split_once(" ").unwrap_or((case.kind, ""));
+    match kind {
+        "script" => script::put(alloc, out, case),
+        "rules" => script::put_rules(alloc, out, case),
+        _ => Ok(out.push_str("no such kind\n")?),
+    }
+}
+
+/// What all cases of the text came to.
+pub fn played(alloc: Global, text: &str) -> Result<String, OutOfMemory> {
+    let mut out = String::new(alloc);
+    let mut case = Case::new(alloc, "");
+    for line in text.lines() {
+        if let Some(name) = line.strip_prefix("case ") {
+            put_case(alloc, &mut out, &case)?;
+            case = Case::new(alloc, name);
+        } else if !line.is_empty() && !line.starts_with("#") {
+            case.add(line)?;
+        }
+    }
+    put_case(alloc, &mut out, &case)?;
+    Ok(out)
+}

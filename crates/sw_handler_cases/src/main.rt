@@ -1,0 +1,26 @@
+//! Plays the cases of handlers that standard input lists, and prints for each what came out. Stands above the handlers. The
+//! head of the stored standard input says how a case is written.
+#![tactic(auto)]
+
+mod answers;
+mod case;
+mod events;
+mod kinds;
+mod script;
+
+use std::io;
+use sw_causes::{ReaderSource, read_whole};
+
+fn main(rt: HostRuntime) -> io::Result<()> {
+    let mut source = ReaderSource::new(rt.reader());
+    let Ok(input) = read_whole(rt.alloc(), &mut source) else {
+        return println!(rt; "the cases can't be read");
+    };
+    let Ok(text) = std::str::from_utf8(&input) else {
+        return println!(rt; "the cases aren't text");
+    };
+    match kinds::played(rt.alloc(), text) {
+        Ok(out) => rt.print(out.as_str()),
+        Err(_) => println!(rt; "no memory"),
+    }
+}

@@ -1,0 +1,5 @@
+pub mod Body
+pub mod First
+pub mod Heads
+pub mod Lines
+pub mod Cutting

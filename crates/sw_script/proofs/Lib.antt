@@ -1,0 +1,3 @@
+pub mod LineSteps
+pub mod GrammarLaw
+pub mod ActSteps
