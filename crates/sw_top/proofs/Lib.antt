@@ -1,3 +1,2 @@
 pub mod Sayings
-pub mod PlayedLaw
 pub mod RightTexts

@@ -11,17 +11,18 @@ use Rattle.sw_settings.specs.declared.values.Values.{Values}
 use Rattle.sw_settings.specs.declared.pair.Pair.{Pair}
 use Rattle.sw_settings.specs.Faults.{IsRefusal, core_fault, fault_of}
 use Rattle.sw_settings_json.specs.Json.{json_settings}
-use Rattle.sw_top.specs.declared.refusal.Refusal.{Refusal}
-use Rattle.sw_top.specs.declared.refusal.Refusal.TheVariants.{Line, Settings, Place}
+use Rattle.sw_answer.specs.declared.refusal.Refusal.{Refusal}
+use Rattle.sw_answer.specs.declared.refusal.Refusal.TheVariants.{Line, Settings, Place}
 use Rattle.sw_top.specs.declared.words.Command.{Command}
 use Rattle.sw_top.specs.declared.words.Command.TheVariants.{Drill as DrillCommand, Audit, Settings as SettingsCommand}
 use Rattle.sw_top.specs.Answering.{Answers, shown}
-use Rattle.sw_top.specs.Refusals.{drill_fault, IsMade, IsSettled, is_memory, refusal_text, refusal_status}
-use Rattle.sw_top.specs.Run.{played_or, answered}
+use Rattle.sw_play.specs.Faults.{drill_fault}
+use Rattle.sw_answer.specs.Refusals.{is_memory, refusal_text, refusal_status}
+use Rattle.sw_play.specs.Run.{played_or, answered}
 use Rattle.sw_top.specs.Words.{command_of}
 use Rattle.sw_top.specs.Says.{FromSource, FromSink, IsInput, IsAnswered, IsWritten, IsCut, Due, DueBy, Meant, Finishes, cut_status, DoesBy, Said, expected_by, expected, settings_status, Expected, IsComplete}
-use Rattle.sw_top.specs.declared.status.Status.{Status}
-use Rattle.sw_top.specs.declared.status.Status.TheVariants as statuses
+use Rattle.sw_answer.specs.declared.status.Status.{Status}
+use Rattle.sw_answer.specs.declared.status.Status.TheVariants as statuses
 
 -- no words and no source make a fault of the sink right
 never_due : (o : Option Command) (s : FromSource) (text : List ℕ) → DueBy o s statuses.WriteFault text → ⊥
@@ -181,28 +182,3 @@ pub refused_due : (c : Command) (s : FromSource) (refusal : Refusal) (status : S
 refused_due c s (Line n) status text came is t = subst (λ (x : Status). Due c s x text) (sym is) (came, t)
 refused_due c s (Settings fault) status text came is t = subst (λ (x : Status). Due c s x text) (sym is) (came, t)
 refused_due c s (Place at) status text came is t = subst (λ (x : Status). Due c s x text) (sym is) (came, t)
-
--- ---- a drill's settings
-
-core_first : (o rest : Option SettingsFault) (fault : SettingsFault) → o ≡ Some fault → option_or o rest ≡ Some fault
-core_first None rest fault e = absurd cc
-core_first (Some g) rest fault e = e
-
-core_passes : (o rest : Option SettingsFault) → o ≡ None → option_or o rest ≡ rest
-core_passes None rest e = refl
-core_passes (Some g) rest e = absurd cc
-
--- a key that the core doesn't know so far is refused first
-pub refused_first : (ps : List Pair) (fault : SettingsFault) → core_fault ps ≡ Some fault → drill_fault ps ≡ Some fault
-unfolding drill_fault
-refused_first ps fault e = core_first (core_fault ps) (fault_of ps) fault e
-
--- where the core knows all keys, the fault is that of the settings
-known_keys : (ps : List Pair) → core_fault ps ≡ None → drill_fault ps ≡ fault_of ps
-unfolding drill_fault
-known_keys ps e = core_passes (core_fault ps) (fault_of ps) e
-
-pub known_settled : (ps : List Pair) → core_fault ps ≡ None → (r : Result (Result Values SettingsFault) OutOfMemory) → IfOk r (IsMade ps) → IfOk r (IsSettled ps)
-known_settled ps known (Ok (Ok v)) m = (known_keys ps known ∙ m.0, m.1)
-known_settled ps known (Ok (Err fault)) m = known_keys ps known ∙ m
-known_settled ps known (Err e) m = tt

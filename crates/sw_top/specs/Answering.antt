@@ -6,13 +6,13 @@ use Rattle.sw_audit.specs.Verdicts.{IsAudit}
 use Rattle.sw_audit.specs.Printing.{verdict_text}
 use Rattle.sw_top.specs.declared.words.Command.{Command}
 use Rattle.sw_top.specs.declared.words.Command.TheVariants.{Drill, Audit, Settings as SettingsCommand}
-use Rattle.sw_top.specs.declared.refusal.Refusal.{Refusal}
-use Rattle.sw_top.specs.declared.refusal.Refusal.TheVariants.{Line, Settings, Place}
+use Rattle.sw_answer.specs.declared.refusal.Refusal.{Refusal}
+use Rattle.sw_answer.specs.declared.refusal.Refusal.TheVariants.{Line, Settings, Place}
 use Rattle.sw_settings.specs.declared.values.Values.{Values}
 use Rattle.sw_settings.specs.declared.faults.SettingsFault.{SettingsFault}
 use Rattle.sw_settings_json.specs.Json.{json_settings}
 use Rattle.sw_settings_print.specs.Print.{settings_text}
-use Rattle.sw_top.specs.Run.{answer_of}
+use Rattle.sw_play.specs.Run.{answer_of}
 
 -- a trace is answered by its verdict, and refused for its first line out of the grammar or for its least bad place
 abbrev pub AnswersTrace : List ℕ → Result (List ℕ) Refusal → Type 0

@@ -1,9 +1,9 @@
 -- How a command line ends.
 use Rattle.std.specs.Prelude.{◌≡◌, ◌⊎◌, ℕ, List, map, drop, String, string_bytes, Option, Some, None}
 use Rattle.std.specs.Global.{Vec, Global}
-use Rattle.sw_top.specs.declared.status.Status.{Status}
-use Rattle.sw_top.specs.declared.status.Status.TheVariants as statuses
-use Rattle.sw_top.specs.Statuses.{status_number}
+use Rattle.sw_answer.specs.declared.status.Status.{Status}
+use Rattle.sw_answer.specs.declared.status.Status.TheVariants as statuses
+use Rattle.sw_answer.specs.Statuses.{status_number}
 use Rattle.sw_top.specs.Says.{FromSource, FromSink, Said, IsComplete}
 use Rattle.sw_top.specs.Rightly.{PrintsRight}
 

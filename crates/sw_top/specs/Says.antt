@@ -12,16 +12,17 @@ use Rattle.sw_top.specs.declared.words.Command.{Command}
 use Rattle.sw_top.specs.declared.words.Command.TheVariants.{Drill as DrillCommand, Audit, Settings as SettingsCommand}
 use Rattle.sw_top.specs.Words.{command_of}
 use Rattle.sw_top.specs.Answering.{Answers}
-use Rattle.sw_top.specs.declared.refusal.Refusal.{Refusal}
-use Rattle.sw_top.specs.Refusals.{drill_fault, line_text, settings_text}
-use Rattle.sw_top.specs.declared.refusal.Refusal.TheVariants.{Line, Settings, Place}
+use Rattle.sw_answer.specs.declared.refusal.Refusal.{Refusal}
+use Rattle.sw_answer.specs.Refusals.{line_text, settings_text}
+use Rattle.sw_play.specs.Faults.{drill_fault}
+use Rattle.sw_answer.specs.declared.refusal.Refusal.TheVariants.{Line, Settings, Place}
 use Rattle.sw_settings.specs.declared.faults.SettingsFault.{SettingsFault}
 use Rattle.sw_settings.specs.declared.values.Values.{Values}
 use Rattle.sw_settings_json.specs.Json.{json_settings}
 use Rattle.sw_drill.specs.declared.schedule.Drill.{Drill}
 use Rattle.sw_drill.specs.Draft.{drill_of}
-use Rattle.sw_top.specs.declared.status.Status.{Status}
-use Rattle.sw_top.specs.declared.status.Status.TheVariants as statuses
+use Rattle.sw_answer.specs.declared.status.Status.{Status}
+use Rattle.sw_answer.specs.declared.status.Status.TheVariants as statuses
 use Rattle.sw_top.specs.declared.command.Outcome.{Outcome}
 use Rattle.sw_top.specs.declared.command.Outcome.TheVariants as outcomes
 

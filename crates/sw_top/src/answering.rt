@@ -2,15 +2,15 @@
 
 ghost use Rattle.std.specs.Prelude.{◌≡◌, IfOk, string_bytes};
 ghost use Rattle.sw_top.specs.Answering.{Answers};
-ghost use Rattle.sw_top.specs.Run.{text_seen};
+ghost use Rattle.sw_answer.specs.Seen.{text_seen};
 
 use crate::auditing::audited;
-use crate::drilling::drilled;
-use crate::refusal::Refusal;
 use crate::showing::shown;
 use crate::words::Command;
 use std::alloc::Global;
+use sw_answer::Refusal;
 use sw_base::OutOfMemory;
+use sw_play::drilled;
 
 /// What is written for an input under a command, or why it is refused.
 pub fn answer(

@@ -2,10 +2,10 @@
 
 ghost use Rattle.std.specs.Prelude.{◌≡◌, IfOk, string_bytes};
 ghost use Rattle.sw_top.specs.Answering.{AnswersTrace};
-ghost use Rattle.sw_top.specs.Run.{text_seen};
+ghost use Rattle.sw_answer.specs.Seen.{text_seen};
 
-use crate::refusal::Refusal;
 use std::alloc::Global;
+use sw_answer::Refusal;
 use sw_audit::{AuditFault, Verdict, audit, print};
 use sw_base::OutOfMemory;
 

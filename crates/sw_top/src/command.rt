@@ -6,11 +6,10 @@ ghost use Rattle.sw_top.specs.Says.{IsOutcome, Comes, Finishes, DoesBy, Said, Is
 ghost use Rattle.sw_top.specs.Rightly.{PrintsRight};
 
 use crate::answering::answer;
-use crate::refusal::Refusal;
-use crate::status::Status;
 use crate::word::Word;
 use crate::words::{Command, command_of};
 use std::alloc::Global;
+use sw_answer::{Refusal, Status};
 use sw_causes::{InputFault, Sink, Source, read_whole, write_whole};
 
 /// What comes of reading the source and doing what it says.

@@ -5,16 +5,12 @@
 mod answering;
 mod auditing;
 mod command;
-mod drilling;
 mod line;
-mod playing;
-mod refusal;
 mod showing;
-mod status;
 mod word;
 mod words;
 
 pub use command::tool;
 pub use line::command_line;
-pub use status::Status;
+pub use sw_answer::Status;
 pub use word::Word;

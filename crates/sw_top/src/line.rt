@@ -4,9 +4,9 @@ ghost use Rattle.std.specs.Prelude.{◌≡◌, map, drop, string_bytes, IfOk};
 ghost use Rattle.sw_top.specs.Line.{EndsLine};
 
 use crate::command::tool;
-use crate::status::Status;
 use crate::word::Word;
 use std::alloc::{AllocError, Global};
+use sw_answer::Status;
 use sw_causes::{Sink, Source};
 
 /// The words of the command line: the arguments behind the first, which is the program's own name.

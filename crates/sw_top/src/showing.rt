@@ -2,10 +2,10 @@
 
 ghost use Rattle.std.specs.Prelude.{◌≡◌, IfOk, string_bytes};
 ghost use Rattle.sw_top.specs.Answering.{settings_answer};
-ghost use Rattle.sw_top.specs.Run.{text_seen};
+ghost use Rattle.sw_answer.specs.Seen.{text_seen};
 
-use crate::refusal::{Refusal, is_memory};
 use std::alloc::Global;
+use sw_answer::{Refusal, is_memory};
 use sw_base::OutOfMemory;
 use sw_settings_json::from_json;
 use sw_settings_print::print;

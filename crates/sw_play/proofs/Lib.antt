@@ -1,0 +1,3 @@
+pub mod PlayedLaw
+pub mod Settled
+pub mod RightTexts
