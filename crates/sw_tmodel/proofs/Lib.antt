@@ -3,3 +3,4 @@ pub mod RowSteps
 pub mod StoreSteps
 pub mod StoredLaws
 pub mod PlaceLaws
+pub mod RowOrder
