@@ -124,7 +124,8 @@ pub fn finished(alloc: Global, trace: Trace) -> Result<Result<Plain, u64>, OutOf
     ensures { IfOk result (IsFinished trace) }
 {
     let late = first_late(alloc, trace.lines.as_slice())?;
-    match played(alloc, trace)? {
+    let end = played(alloc, trace)?;
+    match end {
         Err(wrong) => Ok(Err(lower(late, wrong))),
         Ok(plain) => match late {
             None => Ok(Ok(plain)),

@@ -21,7 +21,7 @@ returns-in-None c = (
   final_of c.args.trace c.in_ok-plain.plain c.first_in_order.new.plain c.in_ok-lines.lines.items c.deref.result.now c.in_ok-plain.ensures c.in-None.ensures.same c.deref.ensures.value c.in_ok-lines.ensures.stable c.in_ok-lines.ensures.same c.in-None.ensures.reached,
 )
 
-pub returns-in-Some : goal.returns-in-Some
-returns-in-Some c =
+pub returns : goal.returns
+returns c =
     in_any_order (table_of c.args.trace) (shape_of c.in_ok-plain.plain) c.args.trace.lines c.in_ok-lines.lines.items c.deref.result.now (Some c.in-Some.at)
     (ap (λ (p : PlainTable). shape_of p) c.in_ok-plain.ensures) c.deref.ensures.value c.in_ok-lines.ensures.stable c.in_ok-lines.ensures.same c.in-Some.ensures.least
