@@ -1,5 +1,5 @@
 -- Entries and their turns.
-use Rattle.std.proofs.Common.{◌≡◌, ℕ, suc, zero, ◌+◌, ◌-◌, ◌<◌, ◌≤◌, ◌≢◌, ◌⊎◌, inl, inr, Bool, true, false, cond, List, [], ◌∷◌, length, Option, Some, None, refl, ap, sym, subst, ◌∙◌, true≢false, arith}
+use Rattle.std.proofs.Common.{◌≡◌, ℕ, ◌+◌, ◌-◌, ◌<◌, ◌≤◌, ◌≢◌, ◌⊎◌, inl, inr, Bool, true, false, cond, List, [], ◌∷◌, Option, Some, None, refl, ap, sym, subst, ◌∙◌, true≢false, arith}
 use Rattle.std.specs.Prelude.{All, Contains, nat_lt, ◌==◌, is_some, unwrap_or}
 use Rattle.std.specs.Ordering.{nat_cmp, is_eq, eq_by_cmp}
 use Rattle.std.specs.declared.cmp.Ordering.TheVariants.{Less, Equal, Greater}
@@ -11,7 +11,7 @@ use Rattle.std.proofs.lemmas.Bool.{cases_eq}
 use Rattle.std.proofs.lemmas.Bool.Decides.{nat_tests}
 use Rattle.sw_timers.specs.declared.alarm.Alarm.{Alarm}
 use Rattle.sw_timers.specs.declared.timers.TheConstants.{MOST_ENTRIES}
-use Rattle.sw_timers.specs.Due.{Waiting, NoneWaits, IsFirst, NoneIsDue, IsNext, IsBefore, answered, moved_by, again}
+use Rattle.sw_timers.specs.Due.{Waiting, NoneWaits, IsFirst, NoneIsDue, IsNext, answered, moved_by, again}
 use Rattle.sw_timers.specs.Queued.{Turn, Turns, turn_of, IsSooner, head_of, has_moment, is_kept, AreQueued, IsKept}
 
 same_some : {X : Type 0} (x y : X) → Some x ≡ Some y → x ≡ y

@@ -1,12 +1,12 @@
 -- Lines played one behind the other.
-use Rattle.std.proofs.Common.{◌≡◌, ℕ, zero, suc, ◌+◌, List, [], ◌∷◌, ◌++◌, Option, Some, None, Result, Bool, refl, ap, sym, subst, ◌∙◌, add-one, append_assoc, append-nil}
+use Rattle.std.proofs.Common.{◌≡◌, ℕ, zero, suc, ◌+◌, List, [], ◌∷◌, ◌++◌, Some, None, Result, Bool, refl, ap, sym, subst, ◌∙◌, add-one, append_assoc, append-nil}
 use Rattle.std.specs.Prelude.{is_some}
 use Rattle.std.specs.FinMap as map
 use Rattle.sw_timers.specs.declared.fault.TimerFault.{TimerFault}
 use Rattle.sw_timers.specs.Due.{Agenda, IsAdded, IsDue}
 use Rattle.sw_timers_text.specs.declared.line.Line.{Line}
-use Rattle.sw_timers_text.specs.declared.line.Line.TheVariants.{After, Tick, Clear, Due}
-use Rattle.sw_timers_text.specs.Prints.{Adds, cleared_text, fire_text, FiresJust, Fires, Plays, PlaysAll, Writes}
+use Rattle.sw_timers_text.specs.declared.line.Line.TheVariants.{After, Tick, Clear}
+use Rattle.sw_timers_text.specs.Prints.{Adds, cleared_text, fire_text, FiresJust, Plays, PlaysAll, Writes}
 
 -- ---- what is put behind a text
 

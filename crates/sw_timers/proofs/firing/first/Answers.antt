@@ -1,4 +1,4 @@
-use Rattle.std.proofs.Common.{◌≡◌, Some, sym, ◌∙◌, rules, arith}
+use Rattle.std.proofs.Common.{sym, ◌∙◌}
 use Rattle.sw_timers.proofs.Waits.{queued_left, first_is, none_waits}
 use Rattle.sw_timers.proofs.firing.first.Goals as goal
 

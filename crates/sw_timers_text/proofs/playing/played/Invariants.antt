@@ -5,4 +5,4 @@ use Rattle.sw_timers_text.specs.Prints.{PlaysAll}
 use Rattle.sw_timers_text.proofs.playing.played.Given as goal
 
 abbrev pub invariant-loop-line : goal.invariant-loop-line
-invariant-loop-line l = PlaysAll nothing_waits (take l.line-index l.lines) (string_bytes l.out) l.timers
+invariant-loop-line l = PlaysAll nothing_waits (take l.line-index l.line-items) (string_bytes l.out) l.timers

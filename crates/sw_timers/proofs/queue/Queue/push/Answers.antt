@@ -1,7 +1,6 @@
-use Rattle.std.proofs.Common.{◌≡◌, ◌<◌, ◌∷◌, List, ap, subst, rules, arith}
-use Rattle.std.specs.Prelude.{Contains, IsPermutation, IsOk}
+use Rattle.std.proofs.Common.{◌≡◌, ◌<◌, List, ap, subst, rules}
+use Rattle.std.specs.Prelude.{Contains}
 use Rattle.std.specs.BinaryHeap.{heap_len, heap_capacity}
-use Rattle.std.proofs.lemmas.Grind.{common_steps}
 use Rattle.sw_timers.specs.Queued.{Turn, Turns, turn_of}
 use Rattle.sw_timers.proofs.Turns.{ok_gives, pushed, pushed_beside}
 use Rattle.sw_timers.proofs.queue.Queue.push.Goals as goal

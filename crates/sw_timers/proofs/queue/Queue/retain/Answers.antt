@@ -1,4 +1,4 @@
-use Rattle.std.proofs.Common.{◌≡◌, List, Bool, true, ap, subst, rules}
+use Rattle.std.proofs.Common.{◌≡◌, List, true, ap, subst, rules}
 use Rattle.std.specs.Prelude.{Contains}
 use Rattle.std.proofs.lemmas.Fn.{filter_same}
 use Rattle.sw_timers.specs.Queued.{Turn, Turns, is_kept}

@@ -1,6 +1,5 @@
-use Rattle.std.proofs.Common.{◌≤◌, subst, sym, arith}
+use Rattle.std.proofs.Common.{◌≤◌, arith}
 use Rattle.std.specs.FinMap as map
-use Rattle.sw_timers.specs.Queued.{AreQueued}
 use Rattle.sw_timers.proofs.Waits.{kept_cleared, queued_kept}
 use Rattle.sw_timers.proofs.timers.Timers.clear.Goals as goal
 
