@@ -3,6 +3,8 @@
 
 mod crowd;
 mod player;
+#[cfg(test)]
+mod tests;
 
 pub use crowd::{eight, two};
 pub use player::Player;
