@@ -27,11 +27,15 @@ use Rattle.sw_hand_laws.specs.Shows.{onto}
 use Rattle.sw_hand_laws.proofs.Tallying.{silent_counted, answers_now, answers_same}
 use Rattle.sw_world_hands.specs.Calls.{looks, binds, searches, posts_fit, posts_to, posts_some, posts, called, calls, makes, counts, sends, hears, takes, idles, turn_calls}
 
+-- a count, whose sum was made
+abbrev pub IsSum : Act × Answer → List Did → Type 0
+IsSum x ds = (c : Counter) × ((n : ℕ) × ((x ≡ (Stats c, Count n)) × (ds ≡ Sums c n ∷ [])))
+
 -- the log tells no further answer, or one more: it is counted as often as a call added to its counter, and a count is the sum
 -- that was made
 pub data Told (log : Log) (ds : List Did) (more : Log) : Type 0 where
   Same : answers_of more ≡ answers_of log → ((i : Counter) → collect (add_in i) ds ≡ []) → Told log ds more
-  Said : (x : Act × Answer) → answers_of more ≡ answers_of log ++ x ∷ [] → ((i : Counter) → length (counted i x) ≡ length (collect (add_in i) ds)) → ((count_in x ≡ []) ⊎ ((c : Counter) × ((n : ℕ) × ((x ≡ (Stats c, Count n)) × (ds ≡ Sums c n ∷ []))))) → Told log ds more
+  Said : (x : Act × Answer) → answers_of more ≡ answers_of log ++ x ∷ [] → ((i : Counter) → length (counted i x) ≡ length (collect (add_in i) ds)) → ((count_in x ≡ []) ⊎ IsSum x ds) → Told log ds more
 
 -- a task found its pipe full
 abbrev pub FullNow : Stage → Got → Type 0
@@ -57,7 +61,7 @@ abbrev pub Adds : Type 0 → Hand → List Did → Turned → Type 0
 Adds now h ds r = Adding now h.seen h.log ds r.hand.seen r.hand.log
 
 -- an answer at once
-once : {ds : List Did} (log : Log) (act : Act) (a : Answer) (next : Act) → last_after Done log ≡ act → silent a ≡ true → ((i : Counter) → collect (add_in i) ds ≡ []) → ((count_in (act, a) ≡ []) ⊎ ((c : Counter) × ((n : ℕ) × (((act, a) ≡ (Stats c, Count n)) × (ds ≡ Sums c n ∷ []))))) → Told log ds (log ++ (AnswerGiven a, next) ∷ [])
+once : {ds : List Did} (log : Log) (act : Act) (a : Answer) (next : Act) → last_after Done log ≡ act → silent a ≡ true → ((i : Counter) → collect (add_in i) ds ≡ []) → ((count_in (act, a) ≡ []) ⊎ IsSum (act, a) ds) → Told log ds (log ++ (AnswerGiven a, next) ∷ [])
 once {ds} log act a next q s none is = Said (act, a) (answers_now log act a next q) (λ i. ap length (silent_counted i act a s) ∙ sym (ap length (none i))) is
 
 -- Send, Close and Reset

@@ -13,7 +13,7 @@ use Rattle.sw_hand_laws.specs.Shows.{onto}
 use Rattle.sw_hand_laws.proofs.Showing.{onto_is}
 use Rattle.sw_hand_laws.proofs.Ends.{one_more}
 use Rattle.sw_world_hands.specs.Hands.{SumsBehind, CallsShow}
-use Rattle.sw_world_hands.proofs.Adding.{Told, Same, Said, Adding}
+use Rattle.sw_world_hands.proofs.Adding.{IsSum, Told, Same, Said, Adding}
 
 -- one list of what was shown
 more_shown : {A : Type 0} (f : Did → List A) (seen after : List A) (dids ds : List Did) → collect f dids ≡ seen → after ≡ onto seen (collect f ds) → collect f (dids ++ ds) ≡ after
@@ -45,14 +45,16 @@ more_sums : (log more : Log) (dids ds : List Did) → ((c : Counter) → length 
 more_sums log more dids ds adds h (Same q none) before behind c n e = old_sum log dids ds h before behind c n (sym q ∙ e)
 more_sums log more dids ds adds h (Said x q same is) before behind c n e = at (place_of (answers_of log) x before (Stats c, Count n) behind (sym q ∙ e)) is
   where
-    now : (z : Act × Answer) → answers_of log ≡ before → z ≡ (Stats c, Count n) → ((k : Counter) × ((m : ℕ) × ((z ≡ (Stats k, Count m)) × (ds ≡ Sums k m ∷ [])))) → (first : List Did) × ((later : List Did) × ((dids ++ ds ≡ first ++ Sums c n ∷ later) × (length (collect (counted c) before) ≤ length (collect (add_in c) first))))
+    now : (z : Act × Answer) → answers_of log ≡ before → z ≡ (Stats c, Count n) → IsSum z ds → (first : List Did) × ((later : List Did) × ((dids ++ ds ≡ first ++ Sums c n ∷ later) × (length (collect (counted c) before) ≤ length (collect (add_in c) first))))
     now z a b (k, (m, (i, j))) =
         let w : ◌≡◌ {A = Act × Answer} (Stats k, Count m) (Stats c, Count n) = sym i ∙ b in
+        let w0 : ◌≡◌ {A = Act} (Stats k) (Stats c) = ap (λ (p : Act × Answer). p.0) w in
+        let w1 : ◌≡◌ {A = Answer} (Count m) (Count n) = ap (λ (p : Act × Answer). p.1) w in
         let u : k ≡ c = cc in
         let v : m ≡ n = cc in
         (dids, ([], (ap (λ (xs : List Did). dids ++ xs) (j ∙ ap (λ (z : Counter). Sums z m ∷ []) u ∙ ap (λ z. Sums c z ∷ []) v), let l : length (collect (add_in c) dids) ≡ length (collect (counted c) before) = adds c ∙ ap (λ xs. length (collect (counted c) xs)) a in omega (arith, l))))
 
-    at : Place (answers_of log) x before (Stats c, Count n) behind → ((count_in x ≡ []) ⊎ ((k : Counter) × ((m : ℕ) × ((x ≡ (Stats k, Count m)) × (ds ≡ Sums k m ∷ []))))) → (first : List Did) × ((later : List Did) × ((dids ++ ds ≡ first ++ Sums c n ∷ later) × (length (collect (counted c) before) ≤ length (collect (add_in c) first))))
+    at : Place (answers_of log) x before (Stats c, Count n) behind → ((count_in x ≡ []) ⊎ IsSum x ds) → (first : List Did) × ((later : List Did) × ((dids ++ ds ≡ first ++ Sums c n ∷ later) × (length (collect (counted c) before) ≤ length (collect (add_in c) first))))
     at (Before rest a) k = old_sum log dids ds h before rest c n a
     at (AtLast a b) (inl none) = absurd (not_sum c n x b none)
     at (AtLast a b) (inr k) = now x a b k

@@ -148,7 +148,7 @@ may_turn t y p Stopped h got i = tt
 pub hands_may : (t : Terms) (limit : ℕ) (y : ActorId) (s : HandState) (got : Got) (dids : List Did) (u : HandState) (ask : Ask) → HandTurn t limit y s got dids u ask → Each (MayDo t y) dids
 hands_may t limit y s got dids u ask turn = subst (Each (MayDo t y)) (sym turn.calls) (may_turn t y turn.ports s.stage s.hand (hand_got got) turn.is)
 
-fails_may : (t : Terms) (y : ActorId) (s : HandState) (got : Got) (dids : List Did) (u : HandState) → HandFails t y s got dids u → Each (MayDo t y) dids
+pub fails_may : (t : Terms) (y : ActorId) (s : HandState) (got : Got) (dids : List Did) (u : HandState) → HandFails t y s got dids u → Each (MayDo t y) dids
 fails_may t y s got dids u turn = subst (Each (MayDo t y)) (sym turn.calls) (each_append (MayDo t y) (dids_of t y turn.ports s got) (Stops ∷ []) (may_turn t y turn.ports s.stage s.hand (hand_got got) turn.is) (inr turn.is, tt))
 
 -- the log goes on by one entry
@@ -170,7 +170,7 @@ hand_there t (Reactor n) q = absurd (cc)
 hand_there t (Worker w) q = inl (w, (grind (arith, nat_tests), refl))
 hand_there t (Tasker k) q = inr (k, (grind (arith, nat_tests), refl))
 
-hands_start : (t : Terms) (limit left : ℕ) (y : ActorId) → is_hand t y ≡ true → HandHolds t limit left y (new_hand left) GotStart no_diary
+pub hands_start : (t : Terms) (limit left : ℕ) (y : ActorId) → is_hand t y ≡ true → HandHolds t limit left y (new_hand left) GotStart no_diary
 hands_start t limit left y q =
     let g = new_good t y limit left in
     record {

@@ -80,11 +80,11 @@ no_task t k n NoMore h = absurd (let q = h.1.1 in cc)
 
 no_tasks : (t : Terms) (k n : ℕ) (ms : Mail) → IsRouted t (Tasker k) ms → of (Tasker n) ms ≡ []
 no_tasks t k n [] h = refl
-no_tasks t k n ((to, m) ∷ ms) h = pick (is to (Tasker n)) refl
+no_tasks t k n ((to, m) ∷ ms) h = pick (is to (Tasker n)) refl (no_tasks t k n ms h.1)
   where
-    pick : (b : Bool) → is to (Tasker n) ≡ b → of (Tasker n) ((to, m) ∷ ms) ≡ []
-    pick true q = absurd (no_task t k n m (subst (λ (x : ActorId). MayPush t (Tasker k) x m) (is_same to (Tasker n) q) h.0))
-    pick false q = ap (λ b. when b m ++ of (Tasker n) ms) q ∙ no_tasks t k n ms h.1
+    pick : (b : Bool) → is to (Tasker n) ≡ b → of (Tasker n) ms ≡ [] → of (Tasker n) ((to, m) ∷ ms) ≡ []
+    pick true q r = absurd (no_task t k n m (subst (λ (x : ActorId). MayPush t (Tasker k) x m) (is_same to (Tasker n) q) h.0))
+    pick false q r = ap (λ b. when b m ++ of (Tasker n) ms) q ∙ r
 
 has_room : (t : Terms) (y : ActorId) (pushed : Mail) (log : Log) (n : ℕ) → IsHand t y → IsRouted t y pushed → ((w k : ℕ) → y ≡ Worker w → length (of (Tasker k) pushed) ≤ length (posts log) + 1) → length (of (Tasker n) pushed) ≤ length (posts log) + 1
 has_room t y pushed log n (inl (w, (lt, q))) r h = h w n q
