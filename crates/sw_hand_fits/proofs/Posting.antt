@@ -77,7 +77,7 @@ post_by t w number ru g e false true false h b c Any bytes k d ask match ce crew
     let p : Ports = record (plain Done) { idle = idle } in
     (p, (idle_there ru.goes ru.sizes h.house t (h.next % h.house.taskers) b d idle match.house crew (zero_not t.tasker_num qu) l,
     behind t (actors.Worker w) number g.log k ask (Idled (h.next % h.house.taskers) idle) (Idles true (g.next % t.tasker_num) idle) [] [] (post_fit t w g e Any bytes p false)
-      (ap (λ n. Idles true (n % h.house.taskers) idle ∷ []) match.next_is ∙ ap (λ n. Idles true (g.next % n) idle ∷ []) match.house.taskers) refl
+      (ap (λ n. Idles true (n % h.house.taskers) idle ∷ []) match.next_is ∙ ap (λ n. Idles true (g.next % n) idle ∷ []) match.house.taskers) refl refl
       (alone t (actors.Worker w) number g.log k ask (post_fit t w g e Any bytes p false) refl (asked_task t w number g e Any bytes idle place h c k ask match ce num (any_place idle) (e1, q)))))
   where
     any_place : (o : Option ℕ) → idle_or o (h.next % h.house.taskers) ≡ tasker_at t h.next Any o

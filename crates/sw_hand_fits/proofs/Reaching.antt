@@ -40,11 +40,11 @@ reach_by {H} {B} {S} {C} t y number ru g e act n a false h b d c s errand m k f 
     seen : (l : Look) → (w : ReachSeen ru.does ru.goes h d c s errand m l k r ask) → Went t y number (Acting e act) g k ask (Looked s l ∷ reach_seen_calls ru l h d c s errand m k r ask w) (λ p. looks s p.look false) (λ p. reach t g e act s n a p false)
     seen (Live u) ((q, i), e2) =
         let p : Ports = record (plain Done) { look = Live u } in
-        (p, (fit p, behind t y number g.log k ask (Looked s (Live u)) (LooksAt s (seen_of (Live u))) [] [] (reach t g e act s n a p false) refl refl (alone t y number g.log k ask (reach t g e act s n a p false) refl (asked_came t y number (live_too g s) e act (actors.Reactor (reactor_of t s)) n a h c (targets.Reactor (code_reactor_of h.house s)) errand m k ask match ce is (ap actors.Reactor (sym (reactor_same t h.house s match.house))) nm an (q, i)))))
+        (p, (fit p, behind t y number g.log k ask (Looked s (Live u)) (LooksAt s (seen_of (Live u))) [] [] (reach t g e act s n a p false) refl refl refl (alone t y number g.log k ask (reach t g e act s n a p false) refl (asked_came t y number (live_too g s) e act (actors.Reactor (reactor_of t s)) n a h c (targets.Reactor (code_reactor_of h.house s)) errand m k ask match ce is (ap actors.Reactor (sym (reactor_same t h.house s match.house))) nm an (q, i)))))
     seen (Other j) w =
         let z = answers t y number ru (other_too g s j) e h d c (NoSession j) k r ask match ce w in
         let p : Ports = record (plain z.0) { look = Other j } in
-        (p, (fit p, behind t y number g.log k ask (Looked s (Other j)) (LooksAt s (seen_of (Other j))) (answers_calls ru h d c (NoSession j) k r ask w) [] (reach t g e act s n a p false) refl refl z.1))
+        (p, (fit p, behind t y number g.log k ask (Looked s (Other j)) (LooksAt s (seen_of (Other j))) (answers_calls ru h d c (NoSession j) k r ask w) [] (reach t g e act s n a p false) refl refl refl z.1))
 
 pub reach_fits : {H B S C L K : Type 0} (t : Terms) (y : ActorId) (number : K → ℕ) (ru : Rules H B S C) (g : Hand) (e : Event) (act : Act) (n : Message) (a : Answer) (h : CodeHand H) (b : B) (d : C) (c : Current) (s : ℕ) (errand : Errand) (m : Msg L K) (k : CodeHand H) (f : B) (r : C) (ask : CodeAsk (Msg L K)) → ((p : Ports) → PortsFit t (Acting e act) g p) → Matches t y g.own g.next g.out g.ended h → c ≡ current_of e → IsErrand errand act → n ≡ message_of number m → a ≡ answer_of g.next errand → 0 < s → 0 < t.max_conn → (w : Reaches ru.looks ru.does ru.goes h b d c s errand m k f r ask) → Went t y number (Acting e act) g k ask (reaches_calls ru (code_is_own h c s) h b d c s errand m k f r ask w) (λ p. looks s p.look (is_own t g.own e s)) (λ p. reach t g e act s n a p (is_own t g.own e s))
 reach_fits t y number ru g e act n a h b d c s errand m k f r ask fit match ce is nm an lt some w = subst (λ v. Went t y number (Acting e act) g k ask (reaches_calls ru (code_is_own h c s) h b d c s errand m k f r ask w) (λ p. looks s p.look v) (λ p. reach t g e act s n a p v)) (own_same t y g.own g.next g.out g.ended h c e s match ce lt some) (reach_by t y number ru g e act n a (code_is_own h c s) h b d c s errand m k f r ask fit match ce is nm an w)
@@ -60,11 +60,11 @@ exist_by {H} {B} {S} {C} t y number ru g e false h b d c s k f r ask match ce (l
     seen (Live u) w =
         let z = answers t y number ru (live_too g s) e h d c (Exists) k r ask match ce w in
         let p : Ports = record (plain z.0) { look = Live u } in
-        (p, (tt, behind t y number g.log k ask (Looked s (Live u)) (LooksAt s (seen_of (Live u))) (answers_calls ru h d c (Exists) k r ask w) [] (exist g e s p false) refl refl z.1))
+        (p, (tt, behind t y number g.log k ask (Looked s (Live u)) (LooksAt s (seen_of (Live u))) (answers_calls ru h d c (Exists) k r ask w) [] (exist g e s p false) refl refl refl z.1))
     seen (Other j) w =
         let z = answers t y number ru (other_too g s j) e h d c (NoSession j) k r ask match ce w in
         let p : Ports = record (plain z.0) { look = Other j } in
-        (p, (tt, behind t y number g.log k ask (Looked s (Other j)) (LooksAt s (seen_of (Other j))) (answers_calls ru h d c (NoSession j) k r ask w) [] (exist g e s p false) refl refl z.1))
+        (p, (tt, behind t y number g.log k ask (Looked s (Other j)) (LooksAt s (seen_of (Other j))) (answers_calls ru h d c (NoSession j) k r ask w) [] (exist g e s p false) refl refl refl z.1))
 
 pub exist_fits : {H B S C L K : Type 0} (t : Terms) (y : ActorId) (number : K → ℕ) (ru : Rules H B S C) (g : Hand) (e : Event) (h : CodeHand H) (b : B) (d : C) (c : Current) (s : ℕ) (k : CodeHand H) (f : B) (r : C) (ask : CodeAsk (Msg L K)) → Matches t y g.own g.next g.out g.ended h → c ≡ current_of e → 0 < s → 0 < t.max_conn → (w : TellsExist ru.looks ru.does ru.goes h b d c s k f r ask) → Went t y number (Acting e (Exist s)) g k ask (tells_calls ru (code_is_own h c s) h b d c s (λ u. Exists) k f r ask w) (λ p. looks s p.look (is_own t g.own e s)) (λ p. exist g e s p (is_own t g.own e s))
 exist_fits t y number ru g e h b d c s k f r ask match ce lt some w = subst (λ v. Went t y number (Acting e (Exist s)) g k ask (tells_calls ru (code_is_own h c s) h b d c s (λ u. Exists) k f r ask w) (λ p. looks s p.look v) (λ p. exist g e s p v)) (own_same t y g.own g.next g.out g.ended h c e s match ce lt some) (exist_by t y number ru g e (code_is_own h c s) h b d c s k f r ask match ce w)
@@ -80,11 +80,11 @@ info_by {H} {B} {S} {C} t y number ru g e false h b d c s k f r ask match ce (lo
     seen (Live u) w =
         let z = answers t y number ru (uid_too g s u) e h d c (InfoIs (s % t.max_conn) u) k r ask match ce w in
         let p : Ports = record (plain z.0) { look = Live u } in
-        (p, (tt, behind t y number g.log k ask (Looked s (Live u)) (LooksAt s (seen_of (Live u))) (answers_calls ru h d c (InfoIs (s % t.max_conn) u) k r ask w) [] (info t g e s p false) refl refl z.1))
+        (p, (tt, behind t y number g.log k ask (Looked s (Live u)) (LooksAt s (seen_of (Live u))) (answers_calls ru h d c (InfoIs (s % t.max_conn) u) k r ask w) [] (info t g e s p false) refl refl refl z.1))
     seen (Other j) w =
         let z = answers t y number ru (other_too g s j) e h d c (NoSession j) k r ask match ce w in
         let p : Ports = record (plain z.0) { look = Other j } in
-        (p, (tt, behind t y number g.log k ask (Looked s (Other j)) (LooksAt s (seen_of (Other j))) (answers_calls ru h d c (NoSession j) k r ask w) [] (info t g e s p false) refl refl z.1))
+        (p, (tt, behind t y number g.log k ask (Looked s (Other j)) (LooksAt s (seen_of (Other j))) (answers_calls ru h d c (NoSession j) k r ask w) [] (info t g e s p false) refl refl refl z.1))
 
 known_same : {H : Type 0} (t : Terms) (y : ActorId) (own : ℕ → Option ℕ) (next out ended : ℕ) (h : CodeHand H) (c : Current) (e : Event) (s : ℕ) → Matches t y own next out ended h → c ≡ current_of e → 0 < s → 0 < t.max_conn → info_known h c s ≡ (if t.mode == 5 then false else is_own t own e s)
 known_same t y own next out ended h c e s match ce lt some = ap (λ v. if h.house.mode == 5 then false else v) (own_same t y own next out ended h c e s match ce lt some) ∙ ap (λ n. if n == 5 then false else is_own t own e s) match.house.mode
@@ -112,19 +112,19 @@ bind_by {H} {B} {S} {C} t y number ru g e true h b d c s u k f r ask match ce (o
     seen (Ok x) i w =
         let z = answers t y number ru (pass_too g s u) e h d c (BindOk) k r ask match ce w in
         let p : Ports = record (plain z.0) { binding = Ok x } in
-        (p, (i, behind t y number g.log k ask (BoundTo s u (Ok x)) (BindsTo s u (bind_got (Ok x))) (answers_calls ru h d c (BindOk) k r ask w) [] (bind g e s u p true) refl refl z.1))
+        (p, (i, behind t y number g.log k ask (BoundTo s u (Ok x)) (BindsTo s u (bind_got (Ok x))) (answers_calls ru h d c (BindOk) k r ask w) [] (bind g e s u p true) refl refl refl z.1))
     seen (Err fault.BadUid) i w =
         let z = answers t y number ru g e h d c (BadUid) k r ask match ce w in
         let p : Ports = record (plain z.0) { binding = Err fault.BadUid } in
-        (p, (i, behind t y number g.log k ask (BoundTo s u (Err fault.BadUid)) (BindsTo s u (bind_got (Err fault.BadUid))) (answers_calls ru h d c (BadUid) k r ask w) [] (bind g e s u p true) refl refl z.1))
+        (p, (i, behind t y number g.log k ask (BoundTo s u (Err fault.BadUid)) (BindsTo s u (bind_got (Err fault.BadUid))) (answers_calls ru h d c (BadUid) k r ask w) [] (bind g e s u p true) refl refl refl z.1))
     seen (Err (fault.Other n)) i w =
         let z = answers t y number ru (other_too g s n) e h d c (NoSession n) k r ask match ce w in
         let p : Ports = record (plain z.0) { binding = Err (fault.Other n) } in
-        (p, (i, behind t y number g.log k ask (BoundTo s u (Err (fault.Other n))) (BindsTo s u (bind_got (Err (fault.Other n)))) (answers_calls ru h d c (NoSession n) k r ask w) [] (bind g e s u p true) refl refl z.1))
+        (p, (i, behind t y number g.log k ask (BoundTo s u (Err (fault.Other n))) (BindsTo s u (bind_got (Err (fault.Other n)))) (answers_calls ru h d c (NoSession n) k r ask w) [] (bind g e s u p true) refl refl refl z.1))
     seen (Err (fault.Bound n)) i w =
         let z = answers t y number ru (bound_too g s n) e h d c (Bound n) k r ask match ce w in
         let p : Ports = record (plain z.0) { binding = Err (fault.Bound n) } in
-        (p, (i, behind t y number g.log k ask (BoundTo s u (Err (fault.Bound n))) (BindsTo s u (bind_got (Err (fault.Bound n)))) (answers_calls ru h d c (Bound n) k r ask w) [] (bind g e s u p true) refl refl z.1))
+        (p, (i, behind t y number g.log k ask (BoundTo s u (Err (fault.Bound n))) (BindsTo s u (bind_got (Err (fault.Bound n)))) (answers_calls ru h d c (Bound n) k r ask w) [] (bind g e s u p true) refl refl refl z.1))
 bind_by t y number ru g e false h b d c s u k f r ask match ce (w, e1) =
     let z = answers t y number ru g e h d c WrongMode k r ask match ce w in
     (record (plain z.0) { binding = bindable u }, (may_bind u, z.1))

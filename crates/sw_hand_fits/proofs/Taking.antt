@@ -35,7 +35,7 @@ use Rattle.sw_hand.specs.declared.stage.Errand.TheVariants as errands
 use Rattle.sw_hand.specs.declared.stage.Stage.TheVariants as stages
 use Rattle.sw_hand_laws.specs.Hand.{Got, Pushed, Push, Rest as RestAsked, AskNothing, Idle, Acting, Sending, Stopping, Hand, goodbye, last_words, hear, skip, settle, full_too, full, sending, leaving, stopping, go_if, may_stop, stop_if, goodbyes, go_on, took_event, took_turn, idle_turn}
 use Rattle.sw_hand_laws.specs.Kept.{PushFits, GotFits}
-use Rattle.sw_hand_fits.specs.Matches.{actor_of, receiver_of, Matches, IsErrand, ForSend, ForClose, ForReset, ForPost, ForFinish, GotIs, BothStart, BothTook, BothEmpty, BothPushed, BothFull, BothNothing, IsNumberedEvent, IsNumberedGot, ask_of, Came, did_in, gave_in, Outcome, Went}
+use Rattle.sw_hand_fits.specs.Matches.{actor_of, receiver_of, Matches, IsErrand, ForSend, ForClose, ForReset, ForPost, ForFinish, GotIs, BothStart, BothTook, BothEmpty, BothPushed, BothFull, BothNothing, IsNumberedEvent, IsNumberedGot, ask_of, Came, did_in, gave_in, wants_in, Outcome, Went}
 use Rattle.sw_hand_fits.proofs.Basics.{plain, min_low, min_high, stays, heard, answered as code_answered, acting_fits, answers, behind, alone, asked_came}
 use Rattle.sw_hand_fits.proofs.Leaving.{leaving_fits, idle_fits, stops_by, stops_at, goes_on}
 use Rattle.sw_hand_fits.proofs.Slots.{Stands, with_stands, less_stands}
@@ -52,7 +52,7 @@ counts_are n errands.Post = refl
 counts_are n errands.Finish = refl
 
 abbrev Counted : {H : Type 0} → (k h : CodeHand H) → Current → Answer → Act → Option Counter → List PortCall → Type 0
-Counted {H} k h c a act o calls = ((k.lost ≡ true) × ((collect did_in calls ≡ adds_of o ++ Stops ∷ []) × (collect gave_in calls ≡ []))) ⊎ ((x : H) × ((k ≡ record h { handler = x; stage = stages.Acting c act }) × ((collect did_in calls ≡ adds_of o) × (collect gave_in calls ≡ (AnswerGiven a, act) ∷ []))))
+Counted {H} k h c a act o calls = ((k.lost ≡ true) × ((collect did_in calls ≡ adds_of o ++ Stops ∷ []) × (collect gave_in calls ≡ []))) ⊎ ((x : H) × ((k ≡ record h { handler = x; stage = stages.Acting c act }) × ((collect did_in calls ≡ adds_of o) × ((collect gave_in calls ≡ (AnswerGiven a, act) ∷ []) × (collect wants_in calls ≡ [])))))
 
 counted : {H B S C : Type 0} (ru : Rules H B S C) (o : Option Counter) (h : CodeHand H) (b : C) (c : Current) (a : Answer) (k : CodeHand H) (d : C) → h.lost ≡ false → (w : Counts ru.does ru.goes o h b c a k d) → (act : Act) × Counted k h c a act o (counts_calls ru o h b c a k d w)
 counted ru None h b c a k d q w = code_answered ru h b c a k d q w
@@ -82,7 +82,8 @@ settles_fit {H} t y number ru g e act x n errand h b k d ask m (w, i) =
       | inr (v, (q, r)) ↦ inr (record {
         came = record { hand = stays t y g.own (next_with g.next (answer_of g.next errand)) (next_with g.out (answer_of g.next errand)) g.ended (noted errand h) k v (noted errand h).row (stages.Acting (current_of e) z.0) q noted_m; stage = acting_fits (next_with g.next (answer_of g.next errand)) (current_of e) e z.0 k.stage (ap (λ (u : CodeHand H). u.stage) q) refl; ask_is = ap (ask_of number) i };
         dids_are = r.0 ∙ counts_are g.next errand;
-        gave = ap (λ (l : Log). g.log ++ l) (sym (r.1 ∙ ap (λ j. (AnswerGiven (answer_of j errand), z.0) ∷ []) m.next_is));
+        gave = ap (λ (l : Log). g.log ++ l) (sym (r.1.0 ∙ ap (λ j. (AnswerGiven (answer_of j errand), z.0) ∷ []) m.next_is));
+        found = r.1.1;
       })
     ])))
 
@@ -139,13 +140,14 @@ stops_fit t y number g n cgot got h k ask BothNothing f lt m z = absurd f
 gives_fit : {H B S C L K : Type 0} (t : Terms) (y : ActorId) (limit : ℕ) (number : K → ℕ) (ru : Rules H B S C) (g : Hand) (from : ActorId) (e : Event) (h : CodeHand H) (b : C) (k : CodeHand H) (d : C) (ask : CodeAsk (Msg L K)) → Stands t (own_with t g.own e) (code_own_with h.house h.own (current_of e)) → Matches t y g.own g.next g.out g.ended h → (w : Gives ru.does ru.goes h b (current_of e) e k d ask) → Went t y number Idle g k ask (gives_calls ru h b (current_of e) e k d ask w) (λ p. Marks false ∷ []) (λ p. record { stage = Acting e p.act; hand = hear t limit g from e p.act; ask = AskNothing })
 gives_fit {H} t y limit number ru g from e h b k d ask st m (mid, (act, (l, (x, w, q, i)))) =
     let own_m : Matches t y (own_with t g.own e) g.next g.out g.ended (record h { own = code_own_with h.house h.own (current_of e) }) = record { house = m.house; kind = m.kind; own_is = st; next_is = m.next_is; out_is = m.out_is; ended_is = m.ended_is; kept = m.kept } in
-    (plain act, (tt, behind t y number g.log k ask (Stepped (Marked false)) (Marks false) (hears_calls ru h.lost (record h { own = code_own_with h.house h.own (current_of e) }) mid (EventGiven e) act l d w) [] (record { stage = Acting e act; hand = hear t limit g from e act; ask = AskNothing }) refl refl
+    (plain act, (tt, behind t y number g.log k ask (Stepped (Marked false)) (Marks false) (hears_calls ru h.lost (record h { own = code_own_with h.house h.own (current_of e) }) mid (EventGiven e) act l d w) [] (record { stage = Acting e act; hand = hear t limit g from e act; ask = AskNothing }) refl refl refl
     (elim (heard ru (record h { own = code_own_with h.house h.own (current_of e) }) mid (EventGiven e) act l d m.kept w) [
       | inl z ↦ inl (record { lost = ap (λ (w : CodeHand H). w.lost) q ∙ z.0; dids_are = z.1.0; gave = z.1.1 })
       | inr z ↦ inr (record {
         came = record { hand = stays t y (own_with t g.own e) g.next g.out g.ended (record h { own = code_own_with h.house h.own (current_of e) }) k l.handler h.row (stages.Acting (current_of e) act) (q ∙ ap (λ (w : CodeHand H). record w { stage = stages.Acting (current_of e) act }) z.0) own_m; stage = acting_fits g.next (current_of e) e act k.stage (ap (λ (w : CodeHand H). w.stage) q) refl; ask_is = ap (ask_of number) i };
         dids_are = z.1.0;
-        gave = ap (λ (l : Log). g.log ++ l) (sym z.1.1);
+        gave = ap (λ (l : Log). g.log ++ l) (sym z.1.1.0);
+        found = z.1.1.1;
       })
     ])))
 
@@ -207,7 +209,7 @@ takes_fit t y limit number ru g from (msgs.Bye s) h b k d ask room num some m (z
 pub idles_fit : {H B S C L K : Type 0} (t : Terms) (y : ActorId) (limit : ℕ) (number : K → ℕ) (ru : Rules H B S C) (g : Hand) (cgot : CodeGot (Msg L K)) (got : Got) (h : CodeHand H) (b : C) (k : CodeHand H) (d : C) (ask : CodeAsk (Msg L K)) → (is_worker y ≡ true → keeps t.mode ≡ true → length h.own ≡ t.max_conn) → IsNumberedGot got → 0 < t.max_conn → GotIs number cgot got → GotFits t Idle got → Matches t y g.own g.next g.out g.ended h → (w : Idles ru.does ru.goes h b cgot k d ask) → Went t y number Idle g k ask (idles_calls ru cgot h b k d ask w) (λ p. idles y got) (λ p. idle_turn t y limit g p got)
 idles_fit t y limit number ru g cgot got h b k d ask room num some (BothTook from msg) f m w = takes_fit t y limit number ru g from msg h b k d ask room num some m w
 idles_fit {H} t y limit number ru g cgot got h b k d ask room num some BothEmpty f m (q, w, i) =
-    (plain Done, (tt, behind t y number g.log k ask (Stepped (Marked true)) (Marks true) [] [] (record { stage = Idle; hand = g; ask = RestAsked }) refl refl (alone t y number g.log k ask (record { stage = Idle; hand = g; ask = RestAsked }) refl (record { hand = stays t y g.own g.next g.out g.ended h k h.handler h.row stages.Idle q m; stage = idle_fits g.next k.stage (ap (λ (w : CodeHand H). w.stage) q); ask_is = ap (ask_of number) i }))))
+    (plain Done, (tt, behind t y number g.log k ask (Stepped (Marked true)) (Marks true) [] [] (record { stage = Idle; hand = g; ask = RestAsked }) refl refl refl (alone t y number g.log k ask (record { stage = Idle; hand = g; ask = RestAsked }) refl (record { hand = stays t y g.own g.next g.out g.ended h k h.handler h.row stages.Idle q m; stage = idle_fits g.next k.stage (ap (λ (w : CodeHand H). w.stage) q); ask_is = ap (ask_of number) i }))))
 idles_fit t y limit number ru g cgot got h b k d ask room num some BothStart f m (z, e1) = (plain Done, (tt, goes_out t y number g h k ask m z))
 idles_fit t y limit number ru g cgot got h b k d ask room num some BothNothing f m (z, e1) = (plain Done, (tt, goes_out t y number g h k ask m z))
 idles_fit t y limit number ru g cgot got h b k d ask room num some BothPushed f m w = absurd f

@@ -19,7 +19,7 @@ use Rattle.sw_port_board.specs.declared.board.BoardStep.{BoardStep}
 use Rattle.sw_port_board.specs.declared.board.BoardStep.TheVariants as steps
 use Rattle.sw_port_shelf.specs.Shelf.{AnswersFit}
 use Rattle.sw_port_shelf.specs.declared.shelf.Placed.{Placed}
-use Rattle.sw_record.specs.Words.{Event, Connect, Packet, Closed, Act, Dst, Send, Close, Reset, Bind, Exist, Info, TaskAct, FinishAct, Log}
+use Rattle.sw_record.specs.Words.{Event, Connect, Packet, Closed, Act, Dst, Send, Close, Reset, Bind, Exist, Info, TaskAct, FinishAct, Given, Log}
 use Rattle.sw_record.specs.Terms.{Terms, keeps}
 use Rattle.sw_past.specs.Messages.{Message, message_of}
 use Rattle.sw_past.specs.Views.{event_in}
@@ -148,6 +148,11 @@ IsNumberedStage _ = Unit {0}
 abbrev pub CallsMay : {S : Type 0} → Terms → Calling S → S → Type 0
 CallsMay {S} t gives s = (call : Call) (after : S) (row found : List Value) (r : Result Placed CallFault) → gives s call after row found r → AnswersFit (call_fault t.columns call) r
 
+-- a handler that found no memory
+abbrev pub wants_in : PortCall → List Given
+wants_in (Starved g) = g ∷ []
+wants_in _ = []
+
 -- a turn of the code that came to what the tables' turn comes to
 pub record Came {H L K : Type 0} (t : Terms) (y : ActorId) (number : K → ℕ) (k : CodeHand H) (ask : CodeAsk (Msg L K)) (r : Turned) : Type 0 where
   pub hand : Matches t y r.hand.own r.hand.next r.hand.out r.hand.ended k
@@ -182,11 +187,17 @@ abbrev pub gave_in : PortCall → Log
 gave_in (Gave g act) = (g, act) ∷ []
 gave_in _ = []
 
+-- a handler that found no memory
+abbrev pub wants_in : PortCall → List Given
+wants_in (Starved g) = g ∷ []
+wants_in _ = []
+
 -- a turn of the code that came to what the tables' turn comes to, with its calls, and with the entry that the log has more
 pub record Comes {H L K : Type 0} (t : Terms) (y : ActorId) (number : K → ℕ) (log : Log) (k : CodeHand H) (ask : CodeAsk (Msg L K)) (calls : List PortCall) (dids : List Did) (r : Turned) : Type 0 where
   pub came : Came t y number k ask r
   pub dids_are : collect did_in calls ≡ dids
   pub gave : r.hand.log ≡ log ++ collect gave_in calls
+  pub found : collect wants_in calls ≡ []
 
 -- a turn that found no memory: the same calls, and then the stop word is set
 pub record Starves {H : Type 0} (k : CodeHand H) (calls : List PortCall) (dids : List Did) : Type 0 where

@@ -1,0 +1,63 @@
+-- A worker's and a task worker's code beside the state that the family has of it.
+use Rattle.std.specs.Prelude.{◌≡◌, ◌⊎◌, ℕ, ◌+◌, ◌≤◌, ◌<◌, min, List, [], ◌∷◌, ◌++◌, length, map, replicate}
+use Rattle.sw_step.specs.declared.actor.ActorId.{ActorId}
+use Rattle.sw_data.specs.declared.messages.Msg.{Msg}
+use Rattle.sw_data.specs.declared.messages.Ask.{Ask as CodeAsk}
+use Rattle.sw_data.specs.declared.messages.Got.{Got as CodeGot}
+use Rattle.sw_data.specs.declared.messages.Got.TheVariants as gots
+use Rattle.sw_record.specs.Words.{Given, Act, Log}
+use Rattle.sw_record.specs.Terms.{Terms}
+use Rattle.sw_past.specs.Messages.{message_of}
+use Rattle.sw_world_laws.specs.Turns.{Ask, Got, GotStart, GotTook, GotEmpty, GotPushed, GotFull, GotNothing}
+use Rattle.sw_hand.specs.Ports.{Acting}
+use Rattle.sw_hand.specs.Hand.{IsHand}
+use Rattle.sw_hand.specs.declared.hand.Hand.{Hand as CodeHand}
+use Rattle.sw_worker.specs.Generations.{Line}
+use Rattle.sw_hand_laws.specs.Hand.{Hand}
+use Rattle.sw_hand_fits.specs.Matches.{Matches, StageFits, ask_of}
+use Rattle.sw_world_hands.specs.Hands.{HandState, Crews, world_ask}
+
+-- what a pipe call gave, as the world has it
+abbrev pub world_got : {L K : Type 0} → (K → ℕ) → CodeGot (Msg L K) → Got
+world_got number gots.Start = GotStart
+world_got number (gots.Took m) = GotTook (message_of number m)
+world_got number gots.Empty = GotEmpty
+world_got number gots.Pushed = GotPushed
+world_got number (gots.Full m) = GotFull (message_of number m)
+world_got number gots.Nothing = GotNothing
+
+-- and what is asked for
+abbrev pub world_asks : {L K : Type 0} → (K → ℕ) → CodeAsk (Msg L K) → Ask
+world_asks number ask = world_ask (ask_of number ask)
+
+-- a hand's code with this state: the settings, who it is, its own sessions and counts, and what it is about; it found memory
+pub record HandIs {H : Type 0} (t : Terms) (y : ActorId) (h : CodeHand H) (s : HandState) : Type 0 where
+  pub code : IsHand h
+  pub matches : Matches t y s.hand.own s.hand.next s.hand.out s.hand.ended h
+  pub stage : StageFits s.hand.next h.stage s.stage
+
+-- a task worker's
+abbrev pub TaskerIs : {T : Type 0} → Terms → ActorId → CodeHand T → HandState → Type 0
+TaskerIs t y h s = HandIs t y h s
+
+-- a worker's handlers: which one is at hand, how many follow it, and how many events it was given
+pub record LineIs {H : Type 0} (limit : ℕ) (g : Hand) (l : Line H) : Type 0 where
+  pub most : l.most ≡ limit
+  pub at : l.at ≡ length g.gone
+  pub left : length l.items ≡ l.at + 1 + g.left
+  -- the code counts up to how many it may be
+  pub events : l.events ≡ min g.events limit
+  pub few : (limit ≡ 0) ⊎ ((g.left ≡ 0) ⊎ (g.events ≤ limit))
+
+-- a worker's
+pub record WorkerIs {H : Type 0} (t : Terms) (crews : Crews) (y : ActorId) (h : CodeHand (Line H)) (s : HandState) : Type 0 where
+  pub hand : HandIs t y h s
+  pub line : LineIs crews.limit s.hand h.handler
+
+-- a handler that tells what it was given and did, and one that tells it of each entry
+abbrev pub Tells : {H : Type 0} → (H → Log) → Acting H → Type 0
+Tells {H} told acts = (h : H) (given : Given) (act : Act) (k : H) → acts h given act k → told k ≡ told h ++ (given, act) ∷ []
+
+-- what the handlers of a worker tell is the worker's log, cut where one follows the other
+abbrev pub LineTells : {H : Type 0} → (H → Log) → Hand → Line H → Type 0
+LineTells told g l = map told l.items ≡ g.gone ++ g.current ∷ replicate g.left []
