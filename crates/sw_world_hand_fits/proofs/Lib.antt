@@ -1,3 +1,5 @@
 pub mod Answers
 pub mod Sound
+pub mod Lines
 pub mod Turns
+pub mod Starts

@@ -39,7 +39,7 @@ use Rattle.sw_hand_fits.specs.Matches.{GotIs, BothStart, BothTook, BothEmpty, Bo
 use Rattle.sw_hand_fits.proofs.Turn.{turn_fits}
 use Rattle.sw_world_hands.specs.Hands.{HandState, hand_got, world_ask, turned, dids_of, HandTurn, HandFails}
 use Rattle.sw_world_hand_fits.specs.Plain.{plain_rules, Stands, IsSound}
-use Rattle.sw_world_hand_fits.specs.Hands.{world_got, world_asks, HandIs}
+use Rattle.sw_world_hand_fits.specs.Hands.{world_got, world_asks, HandIs, Gone, Went}
 use Rattle.sw_world_hand_fits.proofs.Answers.{calls_answered}
 use Rattle.sw_world_hand_fits.proofs.Sound.{sound_turn}
 
@@ -68,21 +68,6 @@ fault_none (Some g) calls last p q = absurd (cc)
 table_may : (t : Terms) (p q : PlainTable) (call : Call) (row new : List Value) (r : Result Placed CallFault) → p.columns ≡ t.columns → IsCall p call q row new r → AnswersFit (call_fault t.columns call) r
 table_may t p q call row new (Ok placed) c w = subst (λ cs. AnswersFit (call_fault cs call) (Ok placed)) c (fault_none (call_fault p.columns call) p.calls p.last_call placed w.0)
 table_may t p q call row new (Err f) c w = subst (λ cs. AnswersFit (call_fault cs call) (Err f)) c (fault_is (call_fault p.columns call) p.calls p.last_call f w.0)
-
--- what a turn of the code came to
-pub record Gone {H L K : Type 0} (t : Terms) (limit : ℕ) (y : ActorId) (number : K → ℕ) (s : HandState) (got : Got) (k : CodeHand H) (ask : CodeAsk (Msg L K)) (calls : List PortCall) (dids : List Did) : Type 0 where
-  pub state : HandState
-  pub turn : HandTurn t limit y s got dids state (world_asks number ask)
-  pub code : HandIs t y k state
-  -- what its handler was given, with its acts
-  pub log : state.hand.log ≡ s.hand.log ++ collect gave_in calls
-
--- or found no memory
-pub record Went {H L K : Type 0} (t : Terms) (shape : Shape) (limit : ℕ) (y : ActorId) (number : K → ℕ) (s : HandState) (got : Got) (k : CodeHand H) (f : Words) (u : PlainTable) (r : PlainWords) (ask : CodeAsk (Msg L K)) (calls : List PortCall) (p : WorldPorts) : Type 0 where
-  pub dids : List Did
-  pub answers : AllAnswer t (LegalFor shape) p y dids
-  pub stands : Stands t shape y (around k f u r) (all_ported t p y dids)
-  pub came : ((k.lost ≡ true) × (HandFails t y s got dids s × (collect gave_in calls ≡ []))) ⊎ ((k.lost ≡ false) × Gone t limit y number s got k ask calls dids)
 
 -- its calls are sound
 sound_calls : {H L K : Type 0} (t : Terms) (y : ActorId) (number : K → ℕ) (log : Log) (k : CodeHand H) (ask : CodeAsk (Msg L K)) (calls : List PortCall) (ds : List Did) (r : Turned) → Each (IsSound t) ds → Outcome t y number log k ask calls ds r → Each (IsSound t) (collect did_in calls)

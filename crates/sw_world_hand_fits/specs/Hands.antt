@@ -1,10 +1,18 @@
 -- A worker's and a task worker's code beside the state that the family has of it.
-use Rattle.std.specs.Prelude.{◌≡◌, ◌⊎◌, ℕ, ◌+◌, ◌≤◌, ◌<◌, min, List, [], ◌∷◌, ◌++◌, length, map, replicate}
+use Rattle.std.specs.Prelude.{◌≡◌, ◌⊎◌, ℕ, ◌+◌, ◌≤◌, min, true, false, List, [], ◌∷◌, ◌++◌, length, map, replicate}
+use Rattle.sw_lists.specs.Lists.{collect}
 use Rattle.sw_step.specs.declared.actor.ActorId.{ActorId}
 use Rattle.sw_data.specs.declared.messages.Msg.{Msg}
 use Rattle.sw_data.specs.declared.messages.Ask.{Ask as CodeAsk}
 use Rattle.sw_data.specs.declared.messages.Got.{Got as CodeGot}
 use Rattle.sw_data.specs.declared.messages.Got.TheVariants as gots
+use Rattle.sw_port_book.specs.Plain.{Words}
+use Rattle.sw_port_board.specs.PlainBoard.{PlainWords}
+use Rattle.sw_table_laws.specs.Table.{Shape}
+use Rattle.sw_tmodel.specs.Plain.{PlainTable}
+use Rattle.sw_join.specs.Legal.{LegalFor}
+use Rattle.sw_world_ports.specs.Calls.{Did}
+use Rattle.sw_world_ports.specs.Ports.{Ports as WorldPorts, AllAnswer, all_ported}
 use Rattle.sw_record.specs.Words.{Given, Act, Log}
 use Rattle.sw_record.specs.Terms.{Terms}
 use Rattle.sw_past.specs.Messages.{message_of}
@@ -12,10 +20,12 @@ use Rattle.sw_world_laws.specs.Turns.{Ask, Got, GotStart, GotTook, GotEmpty, Got
 use Rattle.sw_hand.specs.Ports.{Acting}
 use Rattle.sw_hand.specs.Hand.{IsHand}
 use Rattle.sw_hand.specs.declared.hand.Hand.{Hand as CodeHand}
+use Rattle.sw_hand_calls.specs.Calls.{PortCall, around}
 use Rattle.sw_worker.specs.Generations.{Line}
 use Rattle.sw_hand_laws.specs.Hand.{Hand}
-use Rattle.sw_hand_fits.specs.Matches.{Matches, StageFits, ask_of}
-use Rattle.sw_world_hands.specs.Hands.{HandState, Crews, world_ask}
+use Rattle.sw_hand_fits.specs.Matches.{Matches, StageFits, ask_of, gave_in}
+use Rattle.sw_world_hands.specs.Hands.{HandState, Crews, world_ask, HandTurn, HandFails}
+use Rattle.sw_world_hand_fits.specs.Plain.{Stands}
 
 -- what a pipe call gave, as the world has it
 abbrev pub world_got : {L K : Type 0} → (K → ℕ) → CodeGot (Msg L K) → Got
@@ -61,3 +71,18 @@ Tells {H} told acts = (h : H) (given : Given) (act : Act) (k : H) → acts h giv
 -- what the handlers of a worker tell is the worker's log, cut where one follows the other
 abbrev pub LineTells : {H : Type 0} → (H → Log) → Hand → Line H → Type 0
 LineTells told g l = map told l.items ≡ g.gone ++ g.current ∷ replicate g.left []
+
+-- what a turn of the code came to
+pub record Gone {H L K : Type 0} (t : Terms) (limit : ℕ) (y : ActorId) (number : K → ℕ) (s : HandState) (got : Got) (k : CodeHand H) (ask : CodeAsk (Msg L K)) (calls : List PortCall) (dids : List Did) : Type 0 where
+  pub state : HandState
+  pub turn : HandTurn t limit y s got dids state (world_asks number ask)
+  pub code : HandIs t y k state
+  -- what its handler was given, with its acts
+  pub log : state.hand.log ≡ s.hand.log ++ collect gave_in calls
+
+-- or found no memory
+pub record Went {H L K : Type 0} (t : Terms) (shape : Shape) (limit : ℕ) (y : ActorId) (number : K → ℕ) (s : HandState) (got : Got) (k : CodeHand H) (f : Words) (u : PlainTable) (r : PlainWords) (ask : CodeAsk (Msg L K)) (calls : List PortCall) (p : WorldPorts) : Type 0 where
+  pub dids : List Did
+  pub answers : AllAnswer t (LegalFor shape) p y dids
+  pub stands : Stands t shape y (around k f u r) (all_ported t p y dids)
+  pub came : ((k.lost ≡ true) × (HandFails t y s got dids s × (collect gave_in calls ≡ []))) ⊎ ((k.lost ≡ false) × Gone t limit y number s got k ask calls dids)
