@@ -2,4 +2,5 @@ pub mod Answers
 pub mod Sound
 pub mod Lines
 pub mod Turns
+pub mod Workers
 pub mod Starts

@@ -1,6 +1,7 @@
 -- A worker's handlers go on as the tables' do.
-use Rattle.std.proofs.Common.{◌≡◌, ◌⊎◌, ℕ, zero, suc, ◌+◌, ◌-◌, ◌<◌, ◌≤◌, ◌==◌, nat_lt, ltb, min, Bool, true, false, if◌then◌else◌, List, [], ◌∷◌, ◌++◌, length, slice_set, refl, ap, ◌∙◌, sym, subst, append-nil, arith, inl, inr}
+use Rattle.std.proofs.Common.{◌≡◌, ◌⊎◌, ℕ, zero, suc, ◌+◌, ◌-◌, ◌<◌, ◌≤◌, ◌==◌, nat_lt, ltb, min, Bool, true, false, if◌then◌else◌, List, [], ◌∷◌, ◌++◌, length, refl, ap, ◌∙◌, sym, subst, append-nil, arith, inl, inr}
 use Rattle.std.proofs.lemmas.Bool.Decides.{nat_tests}
+use Rattle.std.proofs.lemmas.List.{length-set}
 use Rattle.sw_lists.specs.Lists.{collect}
 use Rattle.sw_lists.proofs.Lists.{length_append}
 use Rattle.sw_step.specs.declared.actor.ActorId.{ActorId}
@@ -127,3 +128,42 @@ heard_line {H} limit gone events left l false c q due few = subst (λ (x : Line 
     pick : (b : Bool) → nat_lt l.events l.most ≡ b → Counts limit gone (events + 1) left (if b then record l { events = l.events + 1 } else l)
     pick true p = record { most = c.most; at = c.at; left_is = c.left_is; events_are = (let a : l.events < l.most = grind (arith, nat_tests) in omega (arith, a, c.events_are, c.most)); few = few refl }
     pick false p = record { most = c.most; at = c.at; left_is = c.left_is; events_are = (let a : l.most ≤ l.events = grind (arith, nat_tests) in omega (arith, a, c.events_are, c.most)); few = few refl }
+
+-- when another handler is due, and when none is
+due_then : (limit events left : ℕ) (u v w : Bool) → (limit == 0) ≡ u → (events == limit) ≡ v → ltb 0 left ≡ w → (if u then false else if v then w else false) ≡ true → (¬ (limit ≡ 0)) × (¬ (left ≡ 0))
+due_then limit events left false true true p q r e = (grind (arith, nat_tests), grind (arith, nat_tests))
+due_then limit events left true v w p q r e = absurd (cc)
+due_then limit events left false false w p q r e = absurd (cc)
+due_then limit events left false true false p q r e = absurd (cc)
+
+due_not : (limit events left : ℕ) (u v w : Bool) → (limit == 0) ≡ u → (events == limit) ≡ v → ltb 0 left ≡ w → (if u then false else if v then w else false) ≡ false → (limit ≡ 0) ⊎ ((left ≡ 0) ⊎ (events ≤ limit)) → (limit ≡ 0) ⊎ ((left ≡ 0) ⊎ (events + 1 ≤ limit))
+due_not limit events left true v w p q r e few = inl (grind (arith, nat_tests))
+due_not limit events left false true true p q r e few = absurd (cc)
+due_not limit events left false v false p q r e few = inr (inl (grind (arith, nat_tests)))
+due_not limit events left false false true p q r e (inl z) = inl z
+due_not limit events left false false true p q r e (inr (inl z)) = inr (inl z)
+due_not limit events left false false true p q r e (inr (inr le)) = inr (inr (let a : ¬ (events ≡ limit) = grind (arith, nat_tests) in omega (arith, a, le)))
+
+gone_length : {A : Type 0} (v : Bool) (xs : List A) (x : A) → length (if v then xs ++ x ∷ [] else xs) ≡ (if v then length xs + 1 else length xs)
+gone_length true xs x = length_append xs (x ∷ [])
+gone_length false xs x = refl
+
+-- one entry alone
+one_passed : {H : Type 0} (acts : Acting H) (es : Log) (e : Given × Act) (x y : H) → es ≡ e ∷ [] → Passed acts es x y → acts x e.0 e.1 y
+one_passed acts es e x y q h = let k = subst (λ (l : Log). Passed acts l x y) q h in subst (acts x e.0 e.1) (sym k.1.1) k.1.0
+
+pub line_turn : {H : Type 0} (acts : Acting H) (limit : ℕ) (f g : Hand) (l k : Line H) (gave : Log) → LineIs limit f l → Lined limit f g → g.log ≡ f.log ++ gave → Passed (Acts acts) gave l k → LineIs limit g k
+line_turn {H} acts limit f g l k gave is (Same a b c d) q h =
+    let none : [] ≡ gave = cancel f.log [] gave (append-nil f.log ∙ sym a ∙ q) in
+    let same : k ≡ l = subst (λ (es : Log). Passed (Acts acts) es l k) (sym none) h in
+    line_of limit (length f.gone) f.events f.left g k (ap length b) c d (subst (Counts limit (length f.gone) f.events f.left) (sym same) (counts_of limit f l is))
+line_turn {H} acts limit f g l k gave is (More a act b c d e) q h =
+    let one : gave ≡ (AnswerGiven a, act) ∷ [] = cancel f.log gave ((AnswerGiven a, act) ∷ []) (sym q ∙ b) in
+    line_of limit (length f.gone) f.events f.left g k (ap length c) d e (acted acts limit (length f.gone) f.events f.left l k (AnswerGiven a) act (one_passed (Acts acts) gave (AnswerGiven a, act) l k one h) (counts_of limit f l is))
+line_turn {H} acts limit f g l k gave is (Next ev act b c d e) q h =
+    let one : gave ≡ (EventGiven ev, act) ∷ [] = cancel f.log gave ((EventGiven ev, act) ∷ []) (sym q ∙ b) in
+    let v : Bool = is_due limit f in
+    let u : Counts limit (length f.gone) f.events f.left l = counts_of limit f l is in
+    line_of limit (if v then length f.gone + 1 else length f.gone) (if v then 1 else f.events + 1) (if v then f.left - 1 else f.left) g k (ap length c ∙ gone_length v f.gone f.current) d e
+    (acted acts limit (if v then length f.gone + 1 else length f.gone) (if v then 1 else f.events + 1) (if v then f.left - 1 else f.left) (counted (renewed l)) k (EventGiven ev) act (one_passed (Acts acts) gave (EventGiven ev, act) l k one h)
+      (heard_line limit (length f.gone) f.events f.left l v u (due_by limit (length f.gone) f.events f.left l (limit == 0) (f.events == limit) (ltb 0 f.left) u refl refl refl) (due_then limit f.events f.left (limit == 0) (f.events == limit) (ltb 0 f.left) refl refl refl) (λ n. due_not limit f.events f.left (limit == 0) (f.events == limit) (ltb 0 f.left) refl refl refl n u.few)))

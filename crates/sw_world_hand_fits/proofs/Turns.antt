@@ -81,6 +81,7 @@ came_to t limit y number s got k ask calls p hand code fit (inr f) = inr (f.came
   turn = record { is = hand; ports = p; fit = fit; calls = f.dids_are; state = refl; ask_is = ap world_ask f.came.ask_is };
   code = record { code = code; matches = f.came.hand; stage = f.came.stage };
   log = f.gave;
+  found = f.found;
 })
 
 -- a turn of the code of a hand whose sessions are none of number 0

@@ -23,7 +23,7 @@ use Rattle.sw_hand.specs.declared.hand.Hand.{Hand as CodeHand}
 use Rattle.sw_hand_calls.specs.Calls.{PortCall, around}
 use Rattle.sw_worker.specs.Generations.{Line}
 use Rattle.sw_hand_laws.specs.Hand.{Hand}
-use Rattle.sw_hand_fits.specs.Matches.{Matches, StageFits, ask_of, gave_in}
+use Rattle.sw_hand_fits.specs.Matches.{Matches, StageFits, ask_of, gave_in, wants_in}
 use Rattle.sw_world_hands.specs.Hands.{HandState, Crews, world_ask, HandTurn, HandFails}
 use Rattle.sw_world_hand_fits.specs.Plain.{Stands}
 
@@ -79,6 +79,7 @@ pub record Gone {H L K : Type 0} (t : Terms) (limit : ℕ) (y : ActorId) (number
   pub code : HandIs t y k state
   -- what its handler was given, with its acts
   pub log : state.hand.log ≡ s.hand.log ++ collect gave_in calls
+  pub found : collect wants_in calls ≡ []
 
 -- or found no memory
 pub record Went {H L K : Type 0} (t : Terms) (shape : Shape) (limit : ℕ) (y : ActorId) (number : K → ℕ) (s : HandState) (got : Got) (k : CodeHand H) (f : Words) (u : PlainTable) (r : PlainWords) (ask : CodeAsk (Msg L K)) (calls : List PortCall) (p : WorldPorts) : Type 0 where

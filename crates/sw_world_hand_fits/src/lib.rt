@@ -4,4 +4,7 @@
 
 mod turns;
 
-pub use turns::{code_makes_the_familys_turns, task_workers_start_so, workers_start_so};
+pub use turns::{
+    code_makes_the_familys_turns, handlers_follow_one_another, task_workers_start_so,
+    workers_start_so,
+};

@@ -12,13 +12,16 @@ ghost use Rattle.sw_table_laws.specs.Table.{Shape};
 ghost use Rattle.sw_tmodel.specs.Plain.{PlainTable};
 ghost use Rattle.sw_record.specs.Terms.{Terms};
 ghost use Rattle.sw_past.specs.Routes.{IsHand as IsHandOf};
+ghost use Rattle.sw_world_ports.specs.Calls.{Did};
 ghost use Rattle.sw_world_ports.specs.Ports.{Ports};
+ghost use Rattle.sw_world_laws.specs.Turns.{Got as WorldGot};
 ghost use Rattle.sw_world_fits.specs.Board.{IsThere};
 ghost use Rattle.sw_hand.specs.House.{IsHouse};
 ghost use Rattle.sw_hand.specs.Hand.{IsHand};
 ghost use Rattle.sw_hand.specs.declared.hand.Hand.{Hand as CodeHand};
 ghost use Rattle.sw_hand.specs.declared.house.House.{House};
-ghost use Rattle.sw_hand_calls.specs.Calls.{around, turn_calls_of, TurnsBy};
+ghost use Rattle.sw_hand_calls.specs.Calls.{PortCall, AreMade, around, turn_calls_of, TurnsBy};
+ghost use Rattle.sw_worker.specs.Generations.{Line, Acts};
 ghost use Rattle.sw_worker.specs.Worker.{started as worker_started};
 ghost use Rattle.sw_tasker.specs.Tasker.{started as tasker_started};
 ghost use Rattle.sw_hand_laws.specs.Keeps.{Carries};
@@ -26,7 +29,7 @@ ghost use Rattle.sw_hand_laws.specs.Kept.{GotFits};
 ghost use Rattle.sw_hand_fits.specs.Matches.{HouseFits, IsNumberedStage, IsNumberedGot};
 ghost use Rattle.sw_world_hands.specs.Hands.{HandState, Crews, new_hand, hand_got};
 ghost use Rattle.sw_world_hand_fits.specs.Plain.{plain_rules, Stands};
-ghost use Rattle.sw_world_hand_fits.specs.Hands.{world_got, HandIs, TaskerIs, WorkerIs, Went};
+ghost use Rattle.sw_world_hand_fits.specs.Hands.{world_got, HandIs, TaskerIs, WorkerIs, Gone, Went};
 
 use sw_handler::Handler;
 
@@ -54,4 +57,14 @@ pub fn workers_start_so<H>()
     ensures { (t : Terms) (crews : Crews) (w : ℕ) (handlers : List H) (row : List Value) (house : House) → IsHouse house →
         HouseFits t house → length handlers ≡ crews.left (Worker w) + 1 →
         WorkerIs t crews (Worker w) (worker_started 0 w handlers crews.limit row house) (new_hand (crews.left (Worker w))) }
+{}
+
+/// A turn of a worker's code keeps its handlers beside those of the tables: which is at hand, how many follow, and how many
+/// events it was given.
+pub fn handlers_follow_one_another<H: Handler, L, K>()
+    ensures { (t : Terms) (crews : Crews) (y : ActorId) (number : K → ℕ) (s : HandState) (got : WorldGot)
+        (h k : CodeHand (Line H)) (b f : Words) (q u : PlainTable) (o r : PlainWords) (ask : Ask (Msg L K))
+        (calls : List PortCall) (dids : List Did) → WorkerIs t crews y h s → GotFits t s.stage (hand_got got) →
+        AreMade (plain_rules (Acts H.acts)) calls (around h b q o) (around k f u r) →
+        (gone : Gone t crews.limit y number s got k ask calls dids) → WorkerIs t crews y k gone.state }
 {}
