@@ -38,8 +38,8 @@ use Rattle.sw_hand_fits.proofs.Basics.{plain, answers, behind, alone, asked_came
 
 -- an idle task worker is there
 idle_there : {C : Type 0} (goes : Going C) (sizes : C → Sizes) (h : House) (t : Terms) (n : ℕ) (b d : C) (idle : Option ℕ) → HouseFits t h → IsCrew h (sizes b) → ¬ (t.tasker_num ≡ 0) → FindsIdle goes (sizes b) Taskers n b idle d → IdleFits t idle
-idle_there ru h t n b d None f crew some x = tt
-idle_there ru h t n b d (Some m) f crew some x = subst (λ k. m < k) (crew.1 ∙ f.taskers) (subst (λ j. j < (sizes b).taskers) (sym x.2) (mod_below (n + x.0) (sizes b).taskers (let same : (sizes b).taskers ≡ t.tasker_num = crew.1 ∙ f.taskers in omega (arith, same, some))))
+idle_there goes sizes h t n b d None f crew some x = tt
+idle_there goes sizes h t n b d (Some m) f crew some x = subst (λ k. m < k) (crew.1 ∙ f.taskers) (subst (λ j. j < (sizes b).taskers) (sym x.2) (mod_below (n + x.0) (sizes b).taskers (let same : (sizes b).taskers ≡ t.tasker_num = crew.1 ∙ f.taskers in omega (arith, same, some))))
 
 -- a task is asked for
 asked_task : {H L K : Type 0} (t : Terms) (w : ℕ) (number : K → ℕ) (g : Hand) (e : Event) (dst : Dst) (bytes : List ℕ) (idle : Option ℕ) (place : ℕ) (h : CodeHand H) (c : Current) (k : CodeHand H) (ask : CodeAsk (Msg L K)) → Matches t (actors.Worker w) g.own g.next g.out g.ended h → c ≡ current_of e → number_of h.kind ≡ w → place ≡ tasker_at t h.next dst idle → Asks h c (targets.Tasker place) errands.Post (msgs.Event (events.Task (number_of h.kind) h.next bytes)) k ask → Came t (actors.Worker w) number k ask (post_fit t w g e dst bytes (record (plain Done) { idle = idle }) false)
@@ -78,7 +78,7 @@ post_by t w number ru g e false true false h b c Any bytes k d ask match ce crew
     (p, (idle_there ru.goes ru.sizes h.house t (h.next % h.house.taskers) b d idle match.house crew (zero_not t.tasker_num qu) l,
     behind t (actors.Worker w) number g.log k ask (Idled (h.next % h.house.taskers) idle) (Idles true (g.next % t.tasker_num) idle) [] [] (post_fit t w g e Any bytes p false)
       (ap (λ n. Idles true (n % h.house.taskers) idle ∷ []) match.next_is ∙ ap (λ n. Idles true (g.next % n) idle ∷ []) match.house.taskers) refl refl
-      (alone t (actors.Worker w) number g.log k ask (post_fit t w g e Any bytes p false) refl (asked_task t w number g e Any bytes idle place h c k ask match ce num (any_place idle) (e1, q)))))
+      (alone t (actors.Worker w) number g.log k ask (post_fit t w g e Any bytes p false) refl (asked_task t w number g e Any bytes idle place h c k ask match ce num (e0 ∙ any_place idle) (e1, q)))))
   where
     any_place : (o : Option ℕ) → idle_or o (h.next % h.house.taskers) ≡ tasker_at t h.next Any o
     any_place None = ap (λ n. h.next % n) match.house.taskers

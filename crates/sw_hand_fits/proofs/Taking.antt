@@ -17,7 +17,7 @@ use Rattle.sw_past.specs.Messages.{Message, FreshMsg, SendMsg, CloseMsg, ResetMs
 use Rattle.sw_past.specs.Views.{event_in, for_hand, no_more, over_in}
 use Rattle.sw_past.specs.Routes.{is_worker}
 use Rattle.sw_port_board.specs.declared.board.BoardStep.TheVariants.{Marked}
-use Rattle.sw_world_ports.specs.Calls.{Did, Marks, Stops, Adds}
+use Rattle.sw_world_ports.specs.Calls.{Did, Marks, Stops as StopSet, Adds}
 use Rattle.sw_hand_calls.specs.Calls.{PortCall, Stepped, Rules, hears_calls, counts_calls, settles_calls, returns_calls, sends_calls, gives_calls, takes_event_calls, takes_calls, idles_calls}
 use Rattle.sw_world_hands.specs.Calls.{counts, sends, hears, takes, idles}
 use Rattle.sw_hand.specs.Stage.{current_of, is_for, answer_of, counter_of}
@@ -52,7 +52,7 @@ counts_are n errands.Post = refl
 counts_are n errands.Finish = refl
 
 abbrev Counted : {H : Type 0} → (k h : CodeHand H) → Current → Answer → Act → Option Counter → List PortCall → Type 0
-Counted {H} k h c a act o calls = ((k.lost ≡ true) × ((collect did_in calls ≡ adds_of o ++ Stops ∷ []) × (collect gave_in calls ≡ []))) ⊎ ((x : H) × ((k ≡ record h { handler = x; stage = stages.Acting c act }) × ((collect did_in calls ≡ adds_of o) × ((collect gave_in calls ≡ (AnswerGiven a, act) ∷ []) × (collect wants_in calls ≡ [])))))
+Counted {H} k h c a act o calls = ((k.lost ≡ true) × ((collect did_in calls ≡ adds_of o ++ StopSet ∷ []) × (collect gave_in calls ≡ []))) ⊎ ((x : H) × ((k ≡ record h { handler = x; stage = stages.Acting c act }) × ((collect did_in calls ≡ adds_of o) × ((collect gave_in calls ≡ (AnswerGiven a, act) ∷ []) × (collect wants_in calls ≡ [])))))
 
 counted : {H B S C : Type 0} (ru : Rules H B S C) (o : Option Counter) (h : CodeHand H) (b : C) (c : Current) (a : Answer) (k : CodeHand H) (d : C) → h.lost ≡ false → (w : Counts ru.does ru.goes o h b c a k d) → (act : Act) × Counted k h c a act o (counts_calls ru o h b c a k d w)
 counted ru None h b c a k d q w = code_answered ru h b c a k d q w
@@ -78,7 +78,7 @@ settles_fit {H} t y number ru g e act x n errand h b k d ask m (w, i) =
     let noted_m = noted_matches t y g h errand m in
     let z = counted ru (counter_of errand) (noted errand h) b (current_of e) (answer_of h.next errand) k d noted_m.kept w in
     (plain z.0, (tt, subst (λ (calls : List PortCall). Outcome t y number g.log k ask calls (counts (answer_of g.next errand)) (sending g e act x n (answer_of g.next errand) (plain z.0) Pushed)) (sym (settles_same ru errand h b (current_of e) k d ask w i)) (elim z.1 [
-      | inl l ↦ inl (record { lost = l.0; dids_are = l.1.0 ∙ ap (λ (ds : List Did). ds ++ Stops ∷ []) (counts_are g.next errand); gave = l.1.1 })
+      | inl l ↦ inl (record { lost = l.0; dids_are = l.1.0 ∙ ap (λ (ds : List Did). ds ++ StopSet ∷ []) (counts_are g.next errand); gave = l.1.1 })
       | inr (v, (q, r)) ↦ inr (record {
         came = record { hand = stays t y g.own (next_with g.next (answer_of g.next errand)) (next_with g.out (answer_of g.next errand)) g.ended (noted errand h) k v (noted errand h).row (stages.Acting (current_of e) z.0) q noted_m; stage = acting_fits (next_with g.next (answer_of g.next errand)) (current_of e) e z.0 k.stage (ap (λ (u : CodeHand H). u.stage) q) refl; ask_is = ap (ask_of number) i };
         dids_are = r.0 ∙ counts_are g.next errand;

@@ -148,11 +148,6 @@ IsNumberedStage _ = Unit {0}
 abbrev pub CallsMay : {S : Type 0} → Terms → Calling S → S → Type 0
 CallsMay {S} t gives s = (call : Call) (after : S) (row found : List Value) (r : Result Placed CallFault) → gives s call after row found r → AnswersFit (call_fault t.columns call) r
 
--- a handler that found no memory
-abbrev pub wants_in : PortCall → List Given
-wants_in (Starved g) = g ∷ []
-wants_in _ = []
-
 -- a turn of the code that came to what the tables' turn comes to
 pub record Came {H L K : Type 0} (t : Terms) (y : ActorId) (number : K → ℕ) (k : CodeHand H) (ask : CodeAsk (Msg L K)) (r : Turned) : Type 0 where
   pub hand : Matches t y r.hand.own r.hand.next r.hand.out r.hand.ended k

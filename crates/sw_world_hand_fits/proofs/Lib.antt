@@ -1,6 +1,7 @@
 pub mod Answers
 pub mod Sound
 pub mod Lines
+pub mod Numbers
 pub mod Turns
 pub mod Workers
 pub mod Starts

@@ -63,7 +63,7 @@ moved_line t y c a b f g (Nexts h j) = Same refl refl refl refl
 moved_line t y c a b f g (Lasts h j) = Same refl refl refl refl
 
 -- what stands behind the same beginning
-cancel : {A : Type 0} (xs ys zs : List A) → xs ++ ys ≡ xs ++ zs → ys ≡ zs
+pub cancel : {A : Type 0} (xs ys zs : List A) → xs ++ ys ≡ xs ++ zs → ys ≡ zs
 cancel [] ys zs q = q
 cancel (x ∷ xs) ys zs q = cancel xs ys zs (let i : xs ++ ys ≡ xs ++ zs = cc in i)
 

@@ -13,7 +13,7 @@ use Rattle.sw_tmodel.specs.Plain.{PlainTable}
 use Rattle.sw_join.specs.Legal.{LegalFor}
 use Rattle.sw_world_ports.specs.Calls.{Did}
 use Rattle.sw_world_ports.specs.Ports.{Ports as WorldPorts, AllAnswer, all_ported}
-use Rattle.sw_record.specs.Words.{Given, Act, Log}
+use Rattle.sw_record.specs.Words.{Given, EventGiven, AnswerGiven, Act, Log}
 use Rattle.sw_record.specs.Terms.{Terms}
 use Rattle.sw_past.specs.Messages.{message_of}
 use Rattle.sw_world_laws.specs.Turns.{Ask, Got, GotStart, GotTook, GotEmpty, GotPushed, GotFull, GotNothing}
@@ -22,8 +22,8 @@ use Rattle.sw_hand.specs.Hand.{IsHand}
 use Rattle.sw_hand.specs.declared.hand.Hand.{Hand as CodeHand}
 use Rattle.sw_hand_calls.specs.Calls.{PortCall, around}
 use Rattle.sw_worker.specs.Generations.{Line}
-use Rattle.sw_hand_laws.specs.Hand.{Hand}
-use Rattle.sw_hand_fits.specs.Matches.{Matches, StageFits, ask_of, gave_in, wants_in}
+use Rattle.sw_hand_laws.specs.Hand.{Hand, Stage, Acting as ActingStage, Sending, Leaving}
+use Rattle.sw_hand_fits.specs.Matches.{Matches, StageFits, ask_of, gave_in, wants_in, IsNumberedEvent, IsNumbered}
 use Rattle.sw_world_hands.specs.Hands.{HandState, Crews, world_ask, HandTurn, HandFails}
 use Rattle.sw_world_hand_fits.specs.Plain.{Stands}
 
@@ -87,3 +87,19 @@ pub record Went {H L K : Type 0} (t : Terms) (shape : Shape) (limit : ℕ) (y : 
   pub answers : AllAnswer t (LegalFor shape) p y dids
   pub stands : Stands t shape y (around k f u r) (all_ported t p y dids)
   pub came : ((k.lost ≡ true) × (HandFails t y s got dids s × (collect gave_in calls ≡ []))) ⊎ ((k.lost ≡ false) × Gone t limit y number s got k ask calls dids)
+
+-- a stage whose event and act are of sessions other than 0
+abbrev pub Numbered : Stage → Type 0
+Numbered (ActingStage e act) = IsNumberedEvent e × IsNumbered act
+Numbered (Sending e act to m a) = IsNumberedEvent e
+Numbered (Leaving e to m) = IsNumberedEvent e
+Numbered _ = Unit {0}
+
+-- what a handler is given is of sessions other than 0
+abbrev pub IsNumberedGiven : Given → Type 0
+IsNumberedGiven (EventGiven e) = IsNumberedEvent e
+IsNumberedGiven (AnswerGiven a) = Unit {0}
+
+-- a handler that acts on sessions other than 0, as far as it was told of such
+abbrev pub Numbers : {H : Type 0} → Acting H → Type 0
+Numbers {H} acts = (h : H) (given : Given) (act : Act) (k : H) → acts h given act k → IsNumberedGiven given → IsNumbered act

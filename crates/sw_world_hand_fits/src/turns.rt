@@ -29,7 +29,7 @@ ghost use Rattle.sw_hand_laws.specs.Kept.{GotFits};
 ghost use Rattle.sw_hand_fits.specs.Matches.{HouseFits, IsNumberedStage, IsNumberedGot};
 ghost use Rattle.sw_world_hands.specs.Hands.{HandState, Crews, new_hand, hand_got};
 ghost use Rattle.sw_world_hand_fits.specs.Plain.{plain_rules, Stands};
-ghost use Rattle.sw_world_hand_fits.specs.Hands.{world_got, HandIs, TaskerIs, WorkerIs, Gone, Went};
+ghost use Rattle.sw_world_hand_fits.specs.Hands.{world_got, HandIs, TaskerIs, WorkerIs, Gone, Went, Numbered, Numbers};
 
 use sw_handler::Handler;
 
@@ -67,4 +67,13 @@ pub fn handlers_follow_one_another<H: Handler, L, K>()
         (calls : List PortCall) (dids : List Did) → WorkerIs t crews y h s → GotFits t s.stage (hand_got got) →
         AreMade (plain_rules (Acts H.acts)) calls (around h b q o) (around k f u r) →
         (gone : Gone t crews.limit y number s got k ask calls dids) → WorkerIs t crews y k gone.state }
+{}
+
+/// Behind a turn of a hand whose handler acts on sessions other than 0 its event and act are of such sessions again.
+pub fn sessions_stay_numbered<H: Handler, L, K>()
+    ensures { (t : Terms) (limit : ℕ) (y : ActorId) (number : K → ℕ) (s : HandState) (got : WorldGot) (h k : CodeHand H)
+        (b f : Words) (q u : PlainTable) (o r : PlainWords) (ask : Ask (Msg L K)) (calls : List PortCall) (dids : List Did) →
+        Numbers H.acts → GotFits t s.stage (hand_got got) → IsNumberedGot (hand_got got) → Numbered s.stage →
+        AreMade (plain_rules H.acts) calls (around h b q o) (around k f u r) →
+        (gone : Gone t limit y number s got k ask calls dids) → Numbered gone.state.stage }
 {}
