@@ -57,10 +57,13 @@ abbrev pub Answered : {H : Type 0} → (k h : CodeHand H) → Current → Answer
 Answered {H} k h c a act calls = ((k.lost ≡ true) × ((collect did_in calls ≡ Stops ∷ []) × (collect gave_in calls ≡ []))) ⊎ ((x : H) × ((k ≡ record h { handler = x; stage = stages.Acting c act }) × ((collect did_in calls ≡ []) × ((collect gave_in calls ≡ (AnswerGiven a, act) ∷ []) × (collect wants_in calls ≡ [])))))
 
 pub answered : {H B S C : Type 0} (ru : Rules H B S C) (h : CodeHand H) (b : C) (c : Current) (a : Answer) (k : CodeHand H) (d : C) → h.lost ≡ false → (w : AtOnce ru.does ru.goes h b c a k d) → (act : Act) × Answered k h c a act (once_calls ru h b c a k d w)
-answered {H} ru h b c a k d q (act, (mid, (hears, e))) = (act, elim (heard ru h b (AnswerGiven a) act mid d q hears) [
-  | inl l ↦ inl (ap (λ (z : CodeHand H). z.lost) e ∙ l.0, l.1)
-  | inr m ↦ inr (mid.handler, (e ∙ ap (λ (z : CodeHand H). record z { stage = stages.Acting c act }) m.0, m.1))
-])
+answered {H} ru h b c a k d q (act, (mid, (hears, e))) = (
+  act,
+  elim (heard ru h b (AnswerGiven a) act mid d q hears) [
+    | inl l ↦ inl (ap (λ (z : CodeHand H). z.lost) e ∙ l.0, l.1)
+    | inr m ↦ inr (mid.handler, (e ∙ ap (λ (z : CodeHand H). record z { stage = stages.Acting c act }) m.0, m.1))
+  ],
+)
 
 -- the stages
 pub acting_fits : (next : ℕ) (c : Current) (e : Event) (act : Act) (s : CodeStage) → s ≡ stages.Acting c act → c ≡ current_of e → StageFits next s (Acting e act)
@@ -74,10 +77,13 @@ pub once : {H L K : Type 0} (t : Terms) (y : ActorId) (number : K → ℕ) (g : 
 once t y number g e a act c k ask m q ce w = record { hand = m; stage = acting_fits g.next c e act k.stage q ce; ask_is = ap (ask_of number) w }
 
 pub answers : {H B S C L K : Type 0} (t : Terms) (y : ActorId) (number : K → ℕ) (ru : Rules H B S C) (g : Hand) (e : Event) (h : CodeHand H) (b : C) (c : Current) (a : Answer) (k : CodeHand H) (d : C) (ask : CodeAsk (Msg L K)) → Matches t y g.own g.next g.out g.ended h → c ≡ current_of e → (w : Answers ru.does ru.goes h b c a k d ask) → (act : Act) × Outcome t y number g.log k ask (answers_calls ru h b c a k d ask w) [] (at_once g e a act)
-answers {H} t y number ru g e h b c a k d ask m ce (w, i) = let z = answered ru h b c a k d m.kept w in (z.0, elim z.1 [
-  | inl l ↦ inl (record { lost = l.0; dids_are = l.1.0; gave = l.1.1 })
-  | inr (x, (q, r)) ↦ inr (record { came = once t y number g e a z.0 c k ask (stays t y g.own g.next g.out g.ended h k x h.row (stages.Acting c z.0) q m) (ap (λ (w : CodeHand H). w.stage) q) ce i; dids_are = r.0; gave = ap (λ (l : Log). g.log ++ l) (sym r.1.0); found = r.1.1 })
-])
+answers {H} t y number ru g e h b c a k d ask m ce (w, i) = let z = answered ru h b c a k d m.kept w in (
+  z.0,
+  elim z.1 [
+    | inl l ↦ inl (record { lost = l.0; dids_are = l.1.0; gave = l.1.1 })
+    | inr (x, (q, r)) ↦ inr (record { came = once t y number g e a z.0 c k ask (stays t y g.own g.next g.out g.ended h k x h.row (stages.Acting c z.0) q m) (ap (λ (w : CodeHand H). w.stage) q) ce i; dids_are = r.0; gave = ap (λ (l : Log). g.log ++ l) (sym r.1.0); found = r.1.1 })
+  ],
+)
 
 -- behind a call on a port
 pub behind : {H L K : Type 0} (t : Terms) (y : ActorId) (number : K → ℕ) (log : Log) (k : CodeHand H) (ask : CodeAsk (Msg L K)) (x : PortCall) (d : Did) (calls : List PortCall) (ds : List Did) (r : Turned) → did_in x ≡ d ∷ [] → gave_in x ≡ [] → wants_in x ≡ [] → Outcome t y number log k ask calls ds r → Outcome t y number log k ask (x ∷ calls) (d ∷ ds) r

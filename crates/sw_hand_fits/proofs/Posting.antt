@@ -74,11 +74,15 @@ post_by t w number ru g e false true true h b c dst bytes k d ask match ce crew 
 post_by t w number ru g e false true false h b c (At n) bytes k d ask match ce crew num qu qv qx (place, ((e0, e2), (e1, q))) =
     (plain Done, (tt, alone t (actors.Worker w) number g.log k ask (post_fit t w g e (At n) bytes (plain Done) false) refl (asked_task t w number g e (At n) bytes None place h c k ask match ce num e0 (e1, q))))
 post_by t w number ru g e false true false h b c Any bytes k d ask match ce crew num qu qv qx (place, ((idle, (l, e0)), (e1, q))) =
-    let p : Ports = record (plain Done) { idle = idle } in
-    (p, (idle_there ru.goes ru.sizes h.house t (h.next % h.house.taskers) b d idle match.house crew (zero_not t.tasker_num qu) l,
-    behind t (actors.Worker w) number g.log k ask (Idled (h.next % h.house.taskers) idle) (Idles true (g.next % t.tasker_num) idle) [] [] (post_fit t w g e Any bytes p false)
-      (ap (λ n. Idles true (n % h.house.taskers) idle ∷ []) match.next_is ∙ ap (λ n. Idles true (g.next % n) idle ∷ []) match.house.taskers) refl refl
-      (alone t (actors.Worker w) number g.log k ask (post_fit t w g e Any bytes p false) refl (asked_task t w number g e Any bytes idle place h c k ask match ce num (e0 ∙ any_place idle) (e1, q)))))
+    let p : Ports = record (plain Done) { idle = idle } in (
+      p,
+      (
+        idle_there ru.goes ru.sizes h.house t (h.next % h.house.taskers) b d idle match.house crew (zero_not t.tasker_num qu) l,
+        behind t (actors.Worker w) number g.log k ask (Idled (h.next % h.house.taskers) idle) (Idles true (g.next % t.tasker_num) idle) [] [] (post_fit t w g e Any bytes p false)
+            (ap (λ n. Idles true (n % h.house.taskers) idle ∷ []) match.next_is ∙ ap (λ n. Idles true (g.next % n) idle ∷ []) match.house.taskers) refl refl
+            (alone t (actors.Worker w) number g.log k ask (post_fit t w g e Any bytes p false) refl (asked_task t w number g e Any bytes idle place h c k ask match ce num (e0 ∙ any_place idle) (e1, q))),
+      ),
+    )
   where
     any_place : (o : Option ℕ) → idle_or o (h.next % h.house.taskers) ≡ tasker_at t h.next Any o
     any_place None = ap (λ n. h.next % n) match.house.taskers
@@ -104,9 +108,14 @@ post_kind {H} {B} {S} {C} t number ru g e (kinds.Worker w) h b c dst bytes k d a
   where
     by_tests : (z : PostsAs (refusal_by (t.tasker_num == 0) (is_there t dst) (g.next == 2 ^ 64 - 1)) ru.does ru.goes ru.sizes h b c dst bytes k d ask) → Went t (actors.Worker w) number (Acting e (TaskAct dst bytes)) g k ask (posts_calls ru (refusal_by (t.tasker_num == 0) (is_there t dst) (g.next == 2 ^ 64 - 1)) h b c dst bytes k d ask z) (λ p. posts t (actors.Worker w) g.next dst p.idle) (λ p. post t (actors.Worker w) g e dst bytes p)
     by_tests z =
-        let r = post_by t w number ru g e (t.tasker_num == 0) (is_there t dst) (g.next == 2 ^ 64 - 1) h b c dst bytes k d ask match ce crew (ap number_of q) refl refl refl z in
-        (r.0, (r.1.0, subst (λ (ds : List Did). Outcome t (actors.Worker w) number g.log k ask (posts_calls ru (refusal_by (t.tasker_num == 0) (is_there t dst) (g.next == 2 ^ 64 - 1)) h b c dst bytes k d ask z) ds (post_some t w g e dst bytes r.0 (t.tasker_num == 0))) (posts_are t g.next dst r.0.idle (t.tasker_num == 0) (is_there t dst) (g.next == 2 ^ 64 - 1) refl refl)
-          (subst (λ (o : Turned). Outcome t (actors.Worker w) number g.log k ask (posts_calls ru (refusal_by (t.tasker_num == 0) (is_there t dst) (g.next == 2 ^ 64 - 1)) h b c dst bytes k d ask z) (posts_by t g.next dst r.0.idle (t.tasker_num == 0) (is_there t dst) (g.next == 2 ^ 64 - 1)) o) (tests_are t w g e dst bytes r.0 (t.tasker_num == 0) (is_there t dst) (g.next == 2 ^ 64 - 1) refl refl) r.1.1)))
+        let r = post_by t w number ru g e (t.tasker_num == 0) (is_there t dst) (g.next == 2 ^ 64 - 1) h b c dst bytes k d ask match ce crew (ap number_of q) refl refl refl z in (
+          r.0,
+          (
+            r.1.0,
+            subst (λ (ds : List Did). Outcome t (actors.Worker w) number g.log k ask (posts_calls ru (refusal_by (t.tasker_num == 0) (is_there t dst) (g.next == 2 ^ 64 - 1)) h b c dst bytes k d ask z) ds (post_some t w g e dst bytes r.0 (t.tasker_num == 0))) (posts_are t g.next dst r.0.idle (t.tasker_num == 0) (is_there t dst) (g.next == 2 ^ 64 - 1) refl refl)
+                (subst (λ (o : Turned). Outcome t (actors.Worker w) number g.log k ask (posts_calls ru (refusal_by (t.tasker_num == 0) (is_there t dst) (g.next == 2 ^ 64 - 1)) h b c dst bytes k d ask z) (posts_by t g.next dst r.0.idle (t.tasker_num == 0) (is_there t dst) (g.next == 2 ^ 64 - 1)) o) (tests_are t w g e dst bytes r.0 (t.tasker_num == 0) (is_there t dst) (g.next == 2 ^ 64 - 1) refl refl) r.1.1),
+          ),
+        )
 post_kind t number ru g e (kinds.Tasker j) h b c dst bytes k d ask q match ce crew x = let z = answers t (actors.Tasker j) number ru g e h b c NotHere k d ask match ce x in (plain z.0, (tt, z.1))
 
 pub post_fits : {H B S C L K : Type 0} (t : Terms) (y : ActorId) (number : K → ℕ) (ru : Rules H B S C) (g : Hand) (e : Event) (h : CodeHand H) (b : C) (c : Current) (dst : Dst) (bytes : List ℕ) (k : CodeHand H) (d : C) (ask : CodeAsk (Msg L K)) → Matches t y g.own g.next g.out g.ended h → c ≡ current_of e → IsCrew h.house (ru.sizes b) → (w : Posts ru.does ru.goes ru.sizes h b c dst bytes k d ask) → Went t y number (Acting e (TaskAct dst bytes)) g k ask (posts_calls ru (post_refusal h.kind h.house h.next dst) h b c dst bytes k d ask w) (λ p. posts t y g.next dst p.idle) (λ p. post t y g e dst bytes p)

@@ -56,10 +56,13 @@ Counted {H} k h c a act o calls = ((k.lost ≡ true) × ((collect did_in calls �
 
 counted : {H B S C : Type 0} (ru : Rules H B S C) (o : Option Counter) (h : CodeHand H) (b : C) (c : Current) (a : Answer) (k : CodeHand H) (d : C) → h.lost ≡ false → (w : Counts ru.does ru.goes o h b c a k d) → (act : Act) × Counted k h c a act o (counts_calls ru o h b c a k d w)
 counted ru None h b c a k d q w = code_answered ru h b c a k d q w
-counted ru (Some n) h b c a k d q (mid, (added, w)) = let z = code_answered ru h mid c a k d q w in (z.0, elim z.1 [
-  | inl l ↦ inl (l.0, (ap (λ (ds : List Did). Adds n ∷ ds) l.1.0, l.1.1))
-  | inr (x, (i, r)) ↦ inr (x, (i, (ap (λ (ds : List Did). Adds n ∷ ds) r.0, r.1)))
-])
+counted ru (Some n) h b c a k d q (mid, (added, w)) = let z = code_answered ru h mid c a k d q w in (
+  z.0,
+  elim z.1 [
+    | inl l ↦ inl (l.0, (ap (λ (ds : List Did). Adds n ∷ ds) l.1.0, l.1.1))
+    | inr (x, (i, r)) ↦ inr (x, (i, (ap (λ (ds : List Did). Adds n ∷ ds) r.0, r.1)))
+  ],
+)
 
 noted_matches : {H : Type 0} (t : Terms) (y : ActorId) (g : Hand) (h : CodeHand H) (errand : Errand) → Matches t y g.own g.next g.out g.ended h → Matches t y g.own (next_with g.next (answer_of g.next errand)) (next_with g.out (answer_of g.next errand)) g.ended (noted errand h)
 noted_matches t y g h errands.Send m = m
@@ -76,16 +79,21 @@ settles_same ru errands.Finish h b c k d ask w i = refl
 settles_fit : {H B S C L K : Type 0} (t : Terms) (y : ActorId) (number : K → ℕ) (ru : Rules H B S C) (g : Hand) (e : Event) (act : Act) (x : ActorId) (n : Message) (errand : Errand) (h : CodeHand H) (b : C) (k : CodeHand H) (d : C) (ask : CodeAsk (Msg L K)) → Matches t y g.own g.next g.out g.ended h → (w : Settles ru.does ru.goes h b (current_of e) errand k d ask) → Went t y number (Sending e act x n (answer_of g.next errand)) g k ask (settles_calls ru errand h b (current_of e) k d ask w) (λ p. sends (answer_of g.next errand) Pushed) (λ p. sending g e act x n (answer_of g.next errand) p Pushed)
 settles_fit {H} t y number ru g e act x n errand h b k d ask m (w, i) =
     let noted_m = noted_matches t y g h errand m in
-    let z = counted ru (counter_of errand) (noted errand h) b (current_of e) (answer_of h.next errand) k d noted_m.kept w in
-    (plain z.0, (tt, subst (λ (calls : List PortCall). Outcome t y number g.log k ask calls (counts (answer_of g.next errand)) (sending g e act x n (answer_of g.next errand) (plain z.0) Pushed)) (sym (settles_same ru errand h b (current_of e) k d ask w i)) (elim z.1 [
-      | inl l ↦ inl (record { lost = l.0; dids_are = l.1.0 ∙ ap (λ (ds : List Did). ds ++ StopSet ∷ []) (counts_are g.next errand); gave = l.1.1 })
-      | inr (v, (q, r)) ↦ inr (record {
-        came = record { hand = stays t y g.own (next_with g.next (answer_of g.next errand)) (next_with g.out (answer_of g.next errand)) g.ended (noted errand h) k v (noted errand h).row (stages.Acting (current_of e) z.0) q noted_m; stage = acting_fits (next_with g.next (answer_of g.next errand)) (current_of e) e z.0 k.stage (ap (λ (u : CodeHand H). u.stage) q) refl; ask_is = ap (ask_of number) i };
-        dids_are = r.0 ∙ counts_are g.next errand;
-        gave = ap (λ (l : Log). g.log ++ l) (sym (r.1.0 ∙ ap (λ j. (AnswerGiven (answer_of j errand), z.0) ∷ []) m.next_is));
-        found = r.1.1;
-      })
-    ])))
+    let z = counted ru (counter_of errand) (noted errand h) b (current_of e) (answer_of h.next errand) k d noted_m.kept w in (
+      plain z.0,
+      (
+        tt,
+        subst (λ (calls : List PortCall). Outcome t y number g.log k ask calls (counts (answer_of g.next errand)) (sending g e act x n (answer_of g.next errand) (plain z.0) Pushed)) (sym (settles_same ru errand h b (current_of e) k d ask w i)) (elim z.1 [
+          | inl l ↦ inl (record { lost = l.0; dids_are = l.1.0 ∙ ap (λ (ds : List Did). ds ++ StopSet ∷ []) (counts_are g.next errand); gave = l.1.1 })
+          | inr (v, (q, r)) ↦ inr (record {
+            came = record { hand = stays t y g.own (next_with g.next (answer_of g.next errand)) (next_with g.out (answer_of g.next errand)) g.ended (noted errand h) k v (noted errand h).row (stages.Acting (current_of e) z.0) q noted_m; stage = acting_fits (next_with g.next (answer_of g.next errand)) (current_of e) e z.0 k.stage (ap (λ (u : CodeHand H). u.stage) q) refl; ask_is = ap (ask_of number) i };
+            dids_are = r.0 ∙ counts_are g.next errand;
+            gave = ap (λ (l : Log). g.log ++ l) (sym (r.1.0 ∙ ap (λ j. (AnswerGiven (answer_of j errand), z.0) ∷ []) m.next_is));
+            found = r.1.1;
+          })
+        ]),
+      ),
+    )
 
 -- it found the pipe full
 again : {H B S C L K : Type 0} (t : Terms) (y : ActorId) (number : K → ℕ) (ru : Rules H B S C) (g : Hand) (e : Event) (act : Act) (to : Target) (n : Message) (msg : Msg L K) (errand : Errand) (h : CodeHand H) (b : C) (k : CodeHand H) (d : C) (ask : CodeAsk (Msg L K)) → IsErrand errand act → Matches t y g.own g.next g.out g.ended h → (w : Returns ru.does ru.goes h b (current_of e) to errand msg k d ask) → Went t y number (Sending e act (receiver_of to) n (answer_of g.next errand)) g k ask (returns_calls ru errand h b (current_of e) to msg k d ask w) (λ p. []) (λ p. full g e act (receiver_of to) (message_of number msg) (answer_of g.next errand) p.act)
@@ -139,17 +147,22 @@ stops_fit t y number g n cgot got h k ask BothNothing f lt m z = absurd f
 -- an event that was taken
 gives_fit : {H B S C L K : Type 0} (t : Terms) (y : ActorId) (limit : ℕ) (number : K → ℕ) (ru : Rules H B S C) (g : Hand) (from : ActorId) (e : Event) (h : CodeHand H) (b : C) (k : CodeHand H) (d : C) (ask : CodeAsk (Msg L K)) → Stands t (own_with t g.own e) (code_own_with h.house h.own (current_of e)) → Matches t y g.own g.next g.out g.ended h → (w : Gives ru.does ru.goes h b (current_of e) e k d ask) → Went t y number Idle g k ask (gives_calls ru h b (current_of e) e k d ask w) (λ p. Marks false ∷ []) (λ p. record { stage = Acting e p.act; hand = hear t limit g from e p.act; ask = AskNothing })
 gives_fit {H} t y limit number ru g from e h b k d ask st m (mid, (act, (l, (x, w, q, i)))) =
-    let own_m : Matches t y (own_with t g.own e) g.next g.out g.ended (record h { own = code_own_with h.house h.own (current_of e) }) = record { house = m.house; kind = m.kind; own_is = st; next_is = m.next_is; out_is = m.out_is; ended_is = m.ended_is; kept = m.kept } in
-    (plain act, (tt, behind t y number g.log k ask (Stepped (Marked false)) (Marks false) (hears_calls ru h.lost (record h { own = code_own_with h.house h.own (current_of e) }) mid (EventGiven e) act l d w) [] (record { stage = Acting e act; hand = hear t limit g from e act; ask = AskNothing }) refl refl refl
-    (elim (heard ru (record h { own = code_own_with h.house h.own (current_of e) }) mid (EventGiven e) act l d m.kept w) [
-      | inl z ↦ inl (record { lost = ap (λ (w : CodeHand H). w.lost) q ∙ z.0; dids_are = z.1.0; gave = z.1.1 })
-      | inr z ↦ inr (record {
-        came = record { hand = stays t y (own_with t g.own e) g.next g.out g.ended (record h { own = code_own_with h.house h.own (current_of e) }) k l.handler h.row (stages.Acting (current_of e) act) (q ∙ ap (λ (w : CodeHand H). record w { stage = stages.Acting (current_of e) act }) z.0) own_m; stage = acting_fits g.next (current_of e) e act k.stage (ap (λ (w : CodeHand H). w.stage) q) refl; ask_is = ap (ask_of number) i };
-        dids_are = z.1.0;
-        gave = ap (λ (l : Log). g.log ++ l) (sym z.1.1.0);
-        found = z.1.1.1;
-      })
-    ])))
+    let own_m : Matches t y (own_with t g.own e) g.next g.out g.ended (record h { own = code_own_with h.house h.own (current_of e) }) = record { house = m.house; kind = m.kind; own_is = st; next_is = m.next_is; out_is = m.out_is; ended_is = m.ended_is; kept = m.kept } in (
+      plain act,
+      (
+        tt,
+        behind t y number g.log k ask (Stepped (Marked false)) (Marks false) (hears_calls ru h.lost (record h { own = code_own_with h.house h.own (current_of e) }) mid (EventGiven e) act l d w) [] (record { stage = Acting e act; hand = hear t limit g from e act; ask = AskNothing }) refl refl refl
+            (elim (heard ru (record h { own = code_own_with h.house h.own (current_of e) }) mid (EventGiven e) act l d m.kept w) [
+              | inl z ↦ inl (record { lost = ap (λ (w : CodeHand H). w.lost) q ∙ z.0; dids_are = z.1.0; gave = z.1.1 })
+              | inr z ↦ inr (record {
+                came = record { hand = stays t y (own_with t g.own e) g.next g.out g.ended (record h { own = code_own_with h.house h.own (current_of e) }) k l.handler h.row (stages.Acting (current_of e) act) (q ∙ ap (λ (w : CodeHand H). record w { stage = stages.Acting (current_of e) act }) z.0) own_m; stage = acting_fits g.next (current_of e) e act k.stage (ap (λ (w : CodeHand H). w.stage) q) refl; ask_is = ap (ask_of number) i };
+                dids_are = z.1.0;
+                gave = ap (λ (l : Log). g.log ++ l) (sym z.1.1.0);
+                found = z.1.1.1;
+              })
+            ]),
+      ),
+    )
 
 -- a message that is counted or dropped
 more_none : (n : ℕ) (xs : List ℕ) → xs ≡ [] → n ≡ n + length xs

@@ -119,15 +119,17 @@ call_made : {H : Type 0} (acts : Acting H) (t : Terms) (shape : Shape) (y : Acto
 call_made acts t shape y call row found placed a b p st (w, i) =
     let z = placed_fits t shape y a.shelf p st.table st.legal call b.shelf row found placed w in
     let c : cells_of placed.reply found ≡ (TStep (shape_of a.shelf) a.shelf.state call).cells = ap (λ (x : Placed). cells_of x.reply found) w.1 ∙ ap (cells_of (TStep (shape_of a.shelf) a.shelf.state call).reply) w.3 ∙ cells_are (shape_of a.shelf) a.shelf.state call row in
-    subst (λ (x : List Value). Answers t (LegalFor shape) p y (Tables placed.at (call, (placed.reply, x))) × Stands t shape y b (ported t p y (Tables placed.at (call, (placed.reply, x))))) (sym c)
-    (z.0, subst (λ x. Stands t shape y x (ported t p y (Tables placed.at (ran_of a.shelf call placed.reply)))) (sym i) (record {
-      book = record { slots = st.book.slots; last = st.book.last };
-      board = moved st.board;
-      table = z.1;
-      legal = z.0.2;
-      turn = st.turn;
-      counts = st.counts;
-    }))
+    subst (λ (x : List Value). Answers t (LegalFor shape) p y (Tables placed.at (call, (placed.reply, x))) × Stands t shape y b (ported t p y (Tables placed.at (call, (placed.reply, x))))) (sym c) (
+      z.0,
+      subst (λ x. Stands t shape y x (ported t p y (Tables placed.at (ran_of a.shelf call placed.reply)))) (sym i) (record {
+        book = record { slots = st.book.slots; last = st.book.last };
+        board = moved st.board;
+        table = z.1;
+        legal = z.0.2;
+        turn = st.turn;
+        counts = st.counts;
+      }),
+    )
   where
     moved : BoardStands t a.board p → BoardStands t a.board (ported t p y (Tables placed.at (ran_of a.shelf call placed.reply)))
     moved k = record { workers = k.workers; taskers = k.taskers; actors = k.actors; marks = k.marks; words = k.words; stopped = k.stopped; worker = k.worker; tasker = k.tasker; counts = k.counts }

@@ -2,6 +2,6 @@ pub mod Answers
 pub mod Sound
 pub mod Lines
 pub mod Numbers
-pub mod Turns
+pub mod Goes
 pub mod Workers
 pub mod Starts

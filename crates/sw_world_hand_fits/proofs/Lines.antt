@@ -166,4 +166,4 @@ line_turn {H} acts limit f g l k gave is (Next ev act b c d e) q h =
     let u : Counts limit (length f.gone) f.events f.left l = counts_of limit f l is in
     line_of limit (if v then length f.gone + 1 else length f.gone) (if v then 1 else f.events + 1) (if v then f.left - 1 else f.left) g k (ap length c ∙ gone_length v f.gone f.current) d e
     (acted acts limit (if v then length f.gone + 1 else length f.gone) (if v then 1 else f.events + 1) (if v then f.left - 1 else f.left) (counted (renewed l)) k (EventGiven ev) act (one_passed (Acts acts) gave (EventGiven ev, act) l k one h)
-      (heard_line limit (length f.gone) f.events f.left l v u (due_by limit (length f.gone) f.events f.left l (limit == 0) (f.events == limit) (ltb 0 f.left) u refl refl refl) (due_then limit f.events f.left (limit == 0) (f.events == limit) (ltb 0 f.left) refl refl refl) (λ n. due_not limit f.events f.left (limit == 0) (f.events == limit) (ltb 0 f.left) refl refl refl n u.few)))
+    (heard_line limit (length f.gone) f.events f.left l v u (due_by limit (length f.gone) f.events f.left l (limit == 0) (f.events == limit) (ltb 0 f.left) u refl refl refl) (due_then limit f.events f.left (limit == 0) (f.events == limit) (ltb 0 f.left) refl refl refl) (λ n. due_not limit f.events f.left (limit == 0) (f.events == limit) (ltb 0 f.left) refl refl refl n u.few)))

@@ -28,8 +28,8 @@ pub worker_goes : {H L K : Type 0} (acts : Acting H) (t : Terms) (crews : Crews)
 worker_goes acts t crews y number s got h k b f q u o r ask calls dids is fits made gone = record {
   hand = gone.code;
   line = line_turn acts crews.limit s.hand gone.state.hand h.handler k.handler (collect gave_in calls) is.line
-    (subst (λ (x : HandState). Lined crews.limit s.hand x.hand) (sym gone.turn.state) (moved_line t y crews.limit s.stage (turned t y crews.limit gone.turn.ports s got).stage s.hand (turned t y crews.limit gone.turn.ports s got).hand (turn_moves t y crews.limit gone.turn.ports s.stage s.hand (hand_got got) gone.turn.fit fits)))
-    gone.log (passed (Acts acts) calls (around h b q o) (around k f u r) gone.found made);
+      (subst (λ (x : HandState). Lined crews.limit s.hand x.hand) (sym gone.turn.state) (moved_line t y crews.limit s.stage (turned t y crews.limit gone.turn.ports s got).stage s.hand (turned t y crews.limit gone.turn.ports s got).hand (turn_moves t y crews.limit gone.turn.ports s.stage s.hand (hand_got got) gone.turn.fit fits)))
+      gone.log (passed (Acts acts) calls (around h b q o) (around k f u r) gone.found made);
 }
 
 -- sessions stay other than 0

@@ -1,4 +1,4 @@
-use Rattle.sw_world_hand_fits.proofs.Turns.{hand_turn}
+use Rattle.sw_world_hand_fits.proofs.Goes.{hand_turn}
 use Rattle.sw_world_hand_fits.proofs.turns.code_makes_the_familys_turns.Goals as goal
 
 pub returns : goal.returns

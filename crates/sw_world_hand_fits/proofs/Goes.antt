@@ -76,13 +76,16 @@ sound_calls t y number log k ask calls ds r ok (inr f) = subst (Each (IsSound t)
 
 came_to : {H L K : Type 0} (t : Terms) (limit : ℕ) (y : ActorId) (number : K → ℕ) (s : HandState) (got : Got) (k : CodeHand H) (ask : CodeAsk (Msg L K)) (calls : List PortCall) (p : Ports) → IsHandOf t y → IsHand k → PortsFit t s.stage s.hand p → Outcome t y number s.hand.log k ask calls (dids_of t y p s got) (turned t y limit p s got) → ((k.lost ≡ true) × (HandFails t y s got (collect did_in calls) s × (collect gave_in calls ≡ []))) ⊎ ((k.lost ≡ false) × Gone t limit y number s got k ask calls (collect did_in calls))
 came_to t limit y number s got k ask calls p hand code fit (inl f) = inl (f.lost, (record { is = hand; ports = p; fit = fit; calls = f.dids_are; state = refl }, f.gave))
-came_to t limit y number s got k ask calls p hand code fit (inr f) = inr (f.came.hand.kept, record {
-  state = record { stage = (turned t y limit p s got).stage; hand = (turned t y limit p s got).hand };
-  turn = record { is = hand; ports = p; fit = fit; calls = f.dids_are; state = refl; ask_is = ap world_ask f.came.ask_is };
-  code = record { code = code; matches = f.came.hand; stage = f.came.stage };
-  log = f.gave;
-  found = f.found;
-})
+came_to t limit y number s got k ask calls p hand code fit (inr f) = inr (
+  f.came.hand.kept,
+  record {
+    state = record { stage = (turned t y limit p s got).stage; hand = (turned t y limit p s got).hand };
+    turn = record { is = hand; ports = p; fit = fit; calls = f.dids_are; state = refl; ask_is = ap world_ask f.came.ask_is };
+    code = record { code = code; matches = f.came.hand; stage = f.came.stage };
+    log = f.gave;
+    found = f.found;
+  },
+)
 
 -- a turn of the code of a hand whose sessions are none of number 0
 pub hand_turn : {H L K : Type 0} (acts : Acting H) (t : Terms) (shape : Shape) (limit : ℕ) (y : ActorId) (number : K → ℕ) (s : HandState) (h k : CodeHand H) (b f : Words) (q u : PlainTable) (o r : PlainWords) (cgot : CodeGot (Msg L K)) (ask : CodeAsk (Msg L K)) (p : WorldPorts) → 1 ≤ t.max_conn → IsHandOf t y → IsThere t y → HandIs t y h s → IsHand k → Carries t y s.hand.next s.stage → GotFits t s.stage (hand_got (world_got number cgot)) → IsNumberedStage s.stage → IsNumberedGot (hand_got (world_got number cgot)) → Stands t shape y (around h b q o) p → (w : TurnsBy (plain_rules acts) h b q o cgot k f u r ask) → Went t shape limit y number s (world_got number cgot) k f u r ask (turn_calls_of (plain_rules acts) h b q o cgot k f u r ask w.0) p
