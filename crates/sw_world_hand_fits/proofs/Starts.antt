@@ -19,7 +19,7 @@ none_there zero fd = refl
 none_there (suc n) zero = refl
 none_there (suc n) (suc fd) = none_there n fd
 
-room_length : (n : ℕ) → length (replicate n 0) ≡ n
+room_length : (n : ℕ) → length {A = ℕ} (replicate n 0) ≡ n
 room_length zero = refl
 room_length (suc n) = ap (λ k. suc k) (room_length n)
 
