@@ -1,6 +1,7 @@
 pub mod Locals
 pub mod Places
 pub mod Marks
+pub mod Words
 pub mod Turns
 pub mod Moves
 pub mod Reached

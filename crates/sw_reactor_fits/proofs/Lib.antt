@@ -1,0 +1,10 @@
+pub mod Rows
+pub mod Settled
+pub mod Chosen
+pub mod Sessions
+pub mod Telling
+pub mod Turns
+pub mod Served
+pub mod Turning
+pub mod Standing
+pub mod Running

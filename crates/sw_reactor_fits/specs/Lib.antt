@@ -1,0 +1,4 @@
+pub mod Told
+pub mod Fits
+pub mod Calls
+pub mod Ports
