@@ -1,7 +1,6 @@
 pub mod Rows
 pub mod Settled
 pub mod Chosen
-pub mod Sessions
 pub mod Telling
 pub mod Turns
 pub mod Served

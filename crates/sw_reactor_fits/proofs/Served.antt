@@ -52,13 +52,13 @@ use Rattle.sw_reactor_fits.specs.Fits.{IsRow, AreRows, Same, Fits, Sizes, Bounds
 use Rattle.sw_world_ports.specs.Calls.{Seen, Did, Looks, Idles, Frees, Adds}
 use Rattle.sw_record.specs.Words.{EndedCount}
 use Rattle.sw_reactor_fits.specs.Told.{Telling, TellsOf, IsEndOf, DoTell}
-use Rattle.sw_reactor_fits.specs.Calls.{uid_seen, NoCalls, AimCalls, PushCalls, DoesCalls, ServeCalls}
+use Rattle.sw_world_reactor.specs.Calls.{uid_seen, NoCalls, AimCalls, PushCalls, DoesCalls, ServeCalls}
 use Rattle.sw_reactor_fits.specs.Ports.{seen_of, DidsGo, EndsGo, AreSound}
 use Rattle.sw_reactor_fits.proofs.Telling.{Keyed, own_then, flush_tells, flush_keyed, Chose, chose, chose_tells, again_held, tell_held, tidied_held, read_tells}
 use Rattle.sw_reactor_fits.proofs.Rows.{rows_length, IsSplit, rows_split, get_behind, at_behind}
 use Rattle.sw_reactor_fits.proofs.Settled.{row_by, row_tells}
 use Rattle.sw_reactor_fits.proofs.Chosen.{IsTurn, next_mod}
-use Rattle.sw_reactor_fits.proofs.Sessions.{looked_session, serve_session}
+use Rattle.sw_world_reactor.proofs.Sessions.{looked_session, serve_session}
 use Rattle.sw_reactor_fits.proofs.Turns.{Now, push_turn, move_turn, stay_turn, left_turn}
 
 -- a serve with these answers, of this connection behind these, in the table

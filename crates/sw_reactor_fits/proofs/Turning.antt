@@ -26,7 +26,7 @@ use Rattle.sw_reactor.specs.Turn.{Asks, Takes, ends_ask, ends_asked}
 use Rattle.sw_reactor.specs.Serving.{Ports, Serves, ServesNext, Chooses_by, Turns, CountsPacket, counts, counts_asked}
 use Rattle.sw_reactor_fits.specs.Told.{Telling, DoTell, BringsNew}
 use Rattle.sw_reactor_fits.specs.Fits.{WasPush, WasAsked, Same, Fits, got_of, IsBack, Sizes, Bounds}
-use Rattle.sw_reactor_fits.specs.Calls.{NextCalls, ChoiceCalls, packets_counted}
+use Rattle.sw_world_reactor.specs.Calls.{NextCalls, ChoiceCalls, packets_counted}
 use Rattle.sw_reactor_laws.specs.Bounds.{InBounds}
 use Rattle.sw_reactor_fits.specs.Ports.{DidsGo, EndsGo, AreSound, IsTheTables}
 use Rattle.sw_reactor_fits.proofs.Rows.{rows_length}

@@ -1,4 +1,3 @@
 pub mod Told
 pub mod Fits
-pub mod Calls
 pub mod Ports

@@ -21,7 +21,7 @@ use Rattle.sw_reactor.specs.Turn.{Asks}
 use Rattle.sw_reactor.specs.Serving.{Ports}
 use Rattle.sw_reactor_fits.specs.Told.{Telling, IsEndOf}
 use Rattle.sw_reactor_fits.specs.Fits.{Fits, AsksSame}
-use Rattle.sw_reactor_fits.specs.Calls.{TurnCalls}
+use Rattle.sw_world_reactor.specs.Calls.{TurnCalls}
 
 -- what a look answered
 abbrev pub seen_of : Look → Seen

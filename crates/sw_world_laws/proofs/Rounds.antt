@@ -49,6 +49,6 @@ round_laws t legal p c h some l settled d m =
     record {
       shares = λ n lt. (let q = shares_of t legal p c h some l n lt in none_new t n (account_by t p c h).links (p.kept (c.states (Reactor n))) q.0 settled.over q.1.0 q.1.1);
       round = λ n lt. ((done_of t legal p c h l d (Reactor n) (lt_test n t.reactor_num lt)).round m).round n lt refl (words_found t legal p c h l n lt) (fair_took t legal p c h l n);
-      reactor_last = λ n j lt. ((done_of t legal p c h l d (Reactor n) (lt_test n t.reactor_num lt)).round m).last n j lt refl;
+      reactor_last = λ n j lt. ((done_of t legal p c h l d (Reactor n) (lt_test n t.reactor_num lt)).round m).last n j lt refl (words_found t legal p c h l n lt);
       worker_all = λ j lt. ((done_of t legal p c h l d (Worker j) (lt_test j t.worker_num lt)).round m).all j lt refl;
     }
