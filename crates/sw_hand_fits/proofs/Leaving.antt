@@ -21,8 +21,8 @@ use Rattle.sw_hand.specs.declared.stage.Current.{Current}
 use Rattle.sw_hand.specs.declared.stage.Stage.{Stage as CodeStage}
 use Rattle.sw_hand.specs.declared.stage.Stage.TheVariants as stages
 use Rattle.sw_hand_laws.specs.Hand.{Push, Idle, Acting, Leaving, Stopping, Stopped, Hand, bye_to, last_words, goodbye, goodbyes, enders, done, stop_if, stop_at, go_if, may_stop, go_on}
-use Rattle.sw_hand_fits.specs.Matches.{actor_of, receiver_of, HouseFits, Matches, StageFits, BothIdle, BothLeaving, BothStopping, BothOver, ask_of, Came, Went}
-use Rattle.sw_hand_fits.proofs.Basics.{plain, min_low, min_high, stays, keeps_same, reactor_same}
+use Rattle.sw_hand_fits.specs.Matches.{actor_of, receiver_of, HouseFits, Matches, StageFits, BothIdle, BothLeaving, BothStopping, BothOver, ask_of, Came}
+use Rattle.sw_hand_fits.proofs.Basics.{min_low, min_high, stays, keeps_same, reactor_same}
 
 -- the same last words
 abbrev pub SameWords : {L K : Type 0} → (K → ℕ) → Option (Target × Msg L K) → List (ActorId × Message) → Type 0
@@ -59,8 +59,8 @@ ends_by t y number g e None (p ∷ ps) h c k ask m ce w z = absurd w
 ends_by t y number g e (Some q) [] h c k ask m ce w z = absurd w
 ends_by t y number g e (Some q) (p ∷ r ∷ ps) h c k ask m ce w z = absurd w
 
-pub ends_fit : {H L K : Type 0} (t : Terms) (y : ActorId) (number : K → ℕ) (g : Hand) (e : Event) (h : CodeHand H) (c : Current) (k : CodeHand H) (ask : CodeAsk (Msg L K)) → Matches t y g.own g.next g.out g.ended h → c ≡ current_of e → Ends h c k ask → Went t y number (Acting e Done) g k ask (λ p. done g e (last_words t y e))
-ends_fit {H} {L} {K} t y number g e h c k ask m ce z = inr (plain Done, (tt, ends_by t y number g e (code_last_words h.house h.kind c) (last_words t y e) h c k ask m ce (subst (λ (w : Current). SameWords {L = L} {K = K} number (code_last_words h.house h.kind w) (last_words t y e)) (sym ce) (subst (λ (x : ActorId). SameWords {L = L} {K = K} number (code_last_words h.house h.kind (current_of e)) (last_words t x e)) (sym m.kind) (words_same L K number t h.house h.kind e m.house))) z))
+pub ends_fit : {H L K : Type 0} (t : Terms) (y : ActorId) (number : K → ℕ) (g : Hand) (e : Event) (h : CodeHand H) (c : Current) (k : CodeHand H) (ask : CodeAsk (Msg L K)) → Matches t y g.own g.next g.out g.ended h → c ≡ current_of e → Ends h c k ask → Came t y number k ask (done g e (last_words t y e))
+ends_fit {H} {L} {K} t y number g e h c k ask m ce z = ends_by t y number g e (code_last_words h.house h.kind c) (last_words t y e) h c k ask m ce (subst (λ (w : Current). SameWords {L = L} {K = K} number (code_last_words h.house h.kind w) (last_words t y e)) (sym ce) (subst (λ (x : ActorId). SameWords {L = L} {K = K} number (code_last_words h.house h.kind (current_of e)) (last_words t x e)) (sym m.kind) (words_same L K number t h.house h.kind e m.house))) z
 
 -- NoMore
 farewells_same : (t : Terms) (h : House) (kind : Kind) → HouseFits t h → farewells h kind ≡ goodbyes t (actor_of kind)

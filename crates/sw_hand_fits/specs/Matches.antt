@@ -1,6 +1,6 @@
 -- A hand's code beside a hand of the tables: the settings, the actor, the stage and the counts are the same.
-use Rattle.std.specs.Prelude.{◌≡◌, ◌⊎◌, ℕ, zero, suc, ◌<◌, min, Bool, true, false, List, [], ◌∷◌, Option, Some, None, Result, slice_index_or}
-use Rattle.sw_lists.specs.Lists.{Each}
+use Rattle.std.specs.Prelude.{◌≡◌, ◌⊎◌, ℕ, zero, suc, ◌<◌, min, Bool, true, false, List, [], ◌∷◌, ◌++◌, Option, Some, None, Result, Ok, Err, slice_index_or}
+use Rattle.sw_lists.specs.Lists.{collect, Each}
 use Rattle.sw_step.specs.declared.actor.ActorId.{ActorId}
 use Rattle.sw_step.specs.declared.actor.ActorId.TheVariants as actors
 use Rattle.sw_base.specs.declared.table.Call.{Call}
@@ -15,13 +15,18 @@ use Rattle.sw_data.specs.declared.messages.Ask.{Ask as CodeAsk}
 use Rattle.sw_data.specs.declared.messages.Ask.TheVariants as asks
 use Rattle.sw_data.specs.declared.messages.Got.{Got as CodeGot}
 use Rattle.sw_data.specs.declared.messages.Got.TheVariants as gots
+use Rattle.sw_port_board.specs.declared.board.BoardStep.{BoardStep}
+use Rattle.sw_port_board.specs.declared.board.BoardStep.TheVariants as steps
 use Rattle.sw_port_shelf.specs.Shelf.{AnswersFit}
 use Rattle.sw_port_shelf.specs.declared.shelf.Placed.{Placed}
-use Rattle.sw_record.specs.Words.{Event, Connect, Packet, Closed, Act, Dst, Send, Close, Reset, Bind, Exist, Info, TaskAct, FinishAct}
+use Rattle.sw_record.specs.Words.{Event, Connect, Packet, Closed, Act, Dst, Send, Close, Reset, Bind, Exist, Info, TaskAct, FinishAct, Log}
 use Rattle.sw_record.specs.Terms.{Terms, keeps}
 use Rattle.sw_past.specs.Messages.{Message, message_of}
 use Rattle.sw_past.specs.Views.{event_in}
+use Rattle.sw_world_ports.specs.Calls.{Did, Looks, Binds, Marks, Idles, Stops, SeesStop, Adds, Sums, Tables, TableRefuses}
+use Rattle.sw_world_fits.specs.Book.{seen_of, got_of as bind_got}
 use Rattle.sw_hand.specs.Ports.{Calling}
+use Rattle.sw_hand.specs.Calling.{cells_of}
 use Rattle.sw_hand.specs.Stage.{current_of, answer_of}
 use Rattle.sw_hand.specs.House.{enders}
 use Rattle.sw_hand.specs.declared.hand.Hand.{Hand as CodeHand}
@@ -32,6 +37,7 @@ use Rattle.sw_hand.specs.declared.stage.Errand.{Errand}
 use Rattle.sw_hand.specs.declared.stage.Errand.TheVariants as errands
 use Rattle.sw_hand.specs.declared.stage.Stage.{Stage as CodeStage}
 use Rattle.sw_hand.specs.declared.stage.Stage.TheVariants as stages
+use Rattle.sw_hand_calls.specs.Calls.{PortCall, Gave, Starved, Looked, Bound, Called, Idled, Summed, Stepped}
 use Rattle.sw_hand_laws.specs.Hand.{Ports, Hand, Got, Start, Took, Empty, Pushed, Full, Nothing, Ask, Take, Push, Rest, AskNothing, AskFinished, Stage, Idle, Acting, Sending, Leaving, Stopping, Stopped, Turned}
 use Rattle.sw_hand_laws.specs.Moved.{PortsFit}
 
@@ -148,6 +154,50 @@ pub record Came {H L K : Type 0} (t : Terms) (y : ActorId) (number : K → ℕ) 
   pub stage : StageFits r.hand.next k.stage r.stage
   pub ask_is : ask_of number ask ≡ r.ask
 
--- a turn found no memory, or came to the tables' turn for some answers that the ports may give
-abbrev pub Went : {H L K : Type 0} → Terms → ActorId → (K → ℕ) → Stage → Hand → CodeHand H → CodeAsk (Msg L K) → (Ports → Turned) → Type 0
-Went t y number st g k ask f = (k.lost ≡ true) ⊎ ((p : Ports) × (PortsFit t st g p × Came t y number k ask (f p)))
+-- what a call on the ports is to the world
+abbrev pub did_by : BoardStep → List Did
+did_by (steps.Marked idle) = Marks idle ∷ []
+did_by steps.Stopped = Stops ∷ []
+did_by (steps.Added c) = Adds c ∷ []
+did_by (steps.Found actor idle) = []
+did_by (steps.SawStop set) = SeesStop set ∷ []
+did_by (steps.Read c actor n) = []
+
+abbrev pub did_called : Call → List Value → Result Placed CallFault → Did
+did_called call row (Ok p) = Tables p.at (call, (p.reply, cells_of p.reply row))
+did_called call row (Err fault) = TableRefuses call fault
+
+abbrev pub did_in : PortCall → List Did
+did_in (Gave g act) = []
+did_in (Starved g) = []
+did_in (Looked s look) = Looks s (seen_of look) ∷ []
+did_in (Bound s uid r) = Binds s uid (bind_got r) ∷ []
+did_in (Called call row found r) = did_called call found r ∷ []
+did_in (Idled from idle) = Idles true from idle ∷ []
+did_in (Summed c n) = Sums c n ∷ []
+did_in (Stepped x) = did_by x
+
+-- what the handler was given, and its act
+abbrev pub gave_in : PortCall → Log
+gave_in (Gave g act) = (g, act) ∷ []
+gave_in _ = []
+
+-- a turn of the code that came to what the tables' turn comes to, with its calls, and with the entry that the log has more
+pub record Comes {H L K : Type 0} (t : Terms) (y : ActorId) (number : K → ℕ) (log : Log) (k : CodeHand H) (ask : CodeAsk (Msg L K)) (calls : List PortCall) (dids : List Did) (r : Turned) : Type 0 where
+  pub came : Came t y number k ask r
+  pub dids_are : collect did_in calls ≡ dids
+  pub gave : r.hand.log ≡ log ++ collect gave_in calls
+
+-- a turn that found no memory: the same calls, and then the stop word is set
+pub record Starves {H : Type 0} (k : CodeHand H) (calls : List PortCall) (dids : List Did) : Type 0 where
+  pub lost : k.lost ≡ true
+  pub dids_are : collect did_in calls ≡ dids ++ Stops ∷ []
+  pub gave : collect gave_in calls ≡ []
+
+-- either
+abbrev pub Outcome : {H L K : Type 0} → Terms → ActorId → (K → ℕ) → Log → CodeHand H → CodeAsk (Msg L K) → List PortCall → List Did → Turned → Type 0
+Outcome t y number log k ask calls dids r = Starves k calls dids ⊎ Comes t y number log k ask calls dids r
+
+-- a turn came to the tables' turn for the answers that the ports gave, which they may give, or found no memory
+abbrev pub Went : {H L K : Type 0} → Terms → ActorId → (K → ℕ) → Stage → Hand → CodeHand H → CodeAsk (Msg L K) → List PortCall → (Ports → List Did) → (Ports → Turned) → Type 0
+Went t y number st g k ask calls ds f = (p : Ports) × (PortsFit t st g p × Outcome t y number g.log k ask calls (ds p) (f p))

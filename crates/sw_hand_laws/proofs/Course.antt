@@ -33,7 +33,7 @@ new_showing t left = record { passes = refl; bounds = refl; others = refl; seat 
 new_ending : (t : Terms) (y : ActorId) (left : ℕ) → Ending t y Idle (new left)
 new_ending t y left = record { counted = refl; work = []; split = refl; quiet = tt; stops = tt }
 
-new_good : (t : Terms) (y : ActorId) (c : ℕ) (left : ℕ) → Good t y c left Idle (new left) Start
+pub new_good : (t : Terms) (y : ActorId) (c : ℕ) (left : ℕ) → Good t y c left Idle (new left) Start
 new_good t y c left = record {
   kept = record { speaks = new_speaks t y left; posting = λ w r. new_posting w left; making = new_making left; showing = new_showing t left; ending = new_ending t y left };
   fitting = record { fits = tt; replayed = (refl, refl); pending = tt };

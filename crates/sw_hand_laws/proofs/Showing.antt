@@ -35,7 +35,7 @@ told_more s log e act = ap (collect (of_session s)) (one_more event_of log (Even
 pub told_still : (s : ℕ) (log : Log) (a : Answer) (act : Act) → told_of s (log ++ (AnswerGiven a, act) ∷ []) ≡ told_of s log
 told_still s log a act = ap (collect (of_session s)) (told_same log a act)
 
-onto_is : {A : Type 0} (xs ys : List A) → onto xs ys ≡ xs ++ ys
+pub onto_is : {A : Type 0} (xs ys : List A) → onto xs ys ≡ xs ++ ys
 onto_is xs [] = sym (append-nil xs)
 onto_is xs (y ∷ ys) = refl
 

@@ -66,7 +66,7 @@ later : (g : Given) (a : Act) (log : Log) → ((a ≡ Shutdown) × ((next : Act)
 later g a log (inl (q, (next, e))) = (0, (g, (next, (ap (λ (x : Act). Some (g, x)) q, e))))
 later g a log (inr (at, (f, (next, (e, r))))) = (suc at, (f, (next, (e, r))))
 
-stop_asked : (act : Act) (log : Log) → ¬ (collect stop_in (answers_after act log) ≡ []) → DialogueAfter act log → ((act ≡ Shutdown) × ((next : Act) × (slice_get log 0 ≡ Some (AnswerGiven Asked, next)))) ⊎ Later log
+pub stop_asked : (act : Act) (log : Log) → ¬ (collect stop_in (answers_after act log) ≡ []) → DialogueAfter act log → ((act ≡ Shutdown) × ((next : Act) × (slice_get log 0 ≡ Some (AnswerGiven Asked, next)))) ⊎ Later log
 stop_asked act [] n d = absurd (n refl)
 stop_asked act ((g, a) ∷ log) n d = elim (stop_here act g d.0) [
   | inl e ↦ inr (later g a log (stop_asked a log (λ r. n (collect-append stop_in (answer_to act g) (answers_after a log) ∙ ap (λ (ns : List ℕ). ns ++ collect stop_in (answers_after a log)) e ∙ r)) d.1))

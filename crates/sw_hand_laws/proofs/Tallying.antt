@@ -86,7 +86,7 @@ silent_finishes act IdsSpent q = refl
 silent_finishes act NotHere q = refl
 silent_finishes act NoTable q = refl
 
-silent_counted : (k : Counter) (act : Act) (a : Answer) → silent a ≡ true → counted k (act, a) ≡ []
+pub silent_counted : (k : Counter) (act : Act) (a : Answer) → silent a ≡ true → counted k (act, a) ≡ []
 silent_counted AcceptedCount act a q = refl
 silent_counted EndedCount act a q = refl
 silent_counted PacketsCount act a q = refl
@@ -95,10 +95,10 @@ silent_counted TasksCount act a q = silent_tasks act a q
 silent_counted FinishesCount act a q = silent_finishes act a q
 
 -- the answers with one more
-answers_now : (log : Log) (act : Act) (a : Answer) (next : Act) → last_after Done log ≡ act → answers_of (log ++ (AnswerGiven a, next) ∷ []) ≡ answers_of log ++ (act, a) ∷ []
+pub answers_now : (log : Log) (act : Act) (a : Answer) (next : Act) → last_after Done log ≡ act → answers_of (log ++ (AnswerGiven a, next) ∷ []) ≡ answers_of log ++ (act, a) ∷ []
 answers_now log act a next q = answers_more log (AnswerGiven a) next ∙ ap (λ (x : Act). answers_of log ++ answer_to x (AnswerGiven a)) q
 
-answers_same : (log : Log) (e : Event) (next : Act) → answers_of (log ++ (EventGiven e, next) ∷ []) ≡ answers_of log
+pub answers_same : (log : Log) (e : Event) (next : Act) → answers_of (log ++ (EventGiven e, next) ∷ []) ≡ answers_of log
 answers_same log e next = answers_more log (EventGiven e) next ∙ append-nil (answers_of log)
 
 tally_now : (k : Counter) (log : Log) (act : Act) (a : Answer) (next : Act) → last_after Done log ≡ act → length (tally k (log ++ (AnswerGiven a, next) ∷ [])) ≡ length (tally k log) + length (counted k (act, a))

@@ -60,27 +60,27 @@ still t s u d ds h g e none quiet k =
     }
 
 -- with a message in hand, whatever the pipe answers
-pushes : (t : Terms) (u : DoorState) (to : ActorId) (m : Message) (d : Diary) → u.to ≡ to → DoorHolds t u d ((to, m) ∷ []) → After (DoorQuiet t) (DoorDoneLaw t) u (AskPush to m) d
+pushes : (t : Terms) (u : DoorState) (to : ActorId) (m : Message) (d : Diary) → u.to ≡ to → DoorHolds t u d ((to, m) ∷ []) → After t (DoorQuiet t) (DoorDoneLaw t) u (AskPush to m) d
 pushes t u to m d e h = (
-  record { links = h.links; split = append-nil (d.pushed ++ (to, m) ∷ []) ∙ h.split; only = h.only; early = h.early; few = h.few; drawn = h.drawn; stops = h.stops; accepted = h.accepted; refused = h.refused },
+  λ has. record { links = h.links; split = append-nil (d.pushed ++ (to, m) ∷ []) ∙ h.split; only = h.only; early = h.early; few = h.few; drawn = h.drawn; stops = h.stops; accepted = h.accepted; refused = h.refused },
   (let k : DoorHolds t u d ((u.to, m) ∷ []) = subst (λ (z : ActorId). DoorHolds t u d ((z, m) ∷ [])) (sym e) h in
       record { links = k.links; split = k.split; only = k.only; early = k.early; few = k.few; drawn = k.drawn; stops = k.stops; accepted = k.accepted; refused = k.refused }),
 )
 
-goes : (t : Terms) (s : DoorState) (dids : List Did) (u : DoorState) (ask : Ask) (d : Diary) → DoorHolds t s d [] → DoorGoes t s dids u ask → After (DoorQuiet t) (DoorDoneLaw t) u ask (record { took = d.took; pushed = d.pushed; refused = d.refused; dids = d.dids ++ dids })
+goes : (t : Terms) (s : DoorState) (dids : List Did) (u : DoorState) (ask : Ask) (d : Diary) → DoorHolds t s d [] → DoorGoes t s dids u ask → After t (DoorQuiet t) (DoorDoneLaw t) u ask (record { took = d.took; pushed = d.pushed; refused = d.refused; dids = d.dids ++ dids })
 goes t s dids u ask d h (Reads b e a i j q) = by dids u ask i j q
   where
-    by : (xs : List Did) (v : DoorState) (k : Ask) → xs ≡ SeesStop b ∷ [] → v ≡ record s { accepts = true; ending = b } → k ≡ AskNothing → After (DoorQuiet t) (DoorDoneLaw t) v k (record { took = d.took; pushed = d.pushed; refused = d.refused; dids = d.dids ++ xs })
-    by xs v k i j q = subst (λ (x : Ask). After (DoorQuiet t) (DoorDoneLaw t) v x (record { took = d.took; pushed = d.pushed; refused = d.refused; dids = d.dids ++ xs })) (sym q)
+    by : (xs : List Did) (v : DoorState) (k : Ask) → xs ≡ SeesStop b ∷ [] → v ≡ record s { accepts = true; ending = b } → k ≡ AskNothing → After t (DoorQuiet t) (DoorDoneLaw t) v k (record { took = d.took; pushed = d.pushed; refused = d.refused; dids = d.dids ++ xs })
+    by xs v k i j q = subst (λ (x : Ask). After t (DoorQuiet t) (DoorDoneLaw t) v x (record { took = d.took; pushed = d.pushed; refused = d.refused; dids = d.dids ++ xs })) (sym q)
         (still t s v d xs h (ap (λ (x : DoorState). x.given) j) (λ z. h.early e) (ap (λ (x : List Did). collect drew_pair (collect accept_in x)) i) (ap (λ (x : List Did). collect stop_in x) i) (subst Counted (sym i) ((omega arith), (omega arith))))
 goes t s dids u ask d h (NotYet e a i j q) =
-    subst (λ (x : Ask). After (DoorQuiet t) (DoorDoneLaw t) u x (record { took = d.took; pushed = d.pushed; refused = d.refused; dids = d.dids ++ dids })) (sym q)
+    subst (λ (x : Ask). After t (DoorQuiet t) (DoorDoneLaw t) u x (record { took = d.took; pushed = d.pushed; refused = d.refused; dids = d.dids ++ dids })) (sym q)
     (still t s u d dids h (ap (λ (x : DoorState). x.given) j) (λ z. h.early e) (ap (λ (x : List Did). collect drew_pair (collect accept_in x)) i) (ap (λ (x : List Did). collect stop_in x) i) (subst Counted (sym i) ((omega arith), (omega arith))))
 goes t s dids u ask d h (NetEnds e a i j q) =
-    subst (λ (x : Ask). After (DoorQuiet t) (DoorDoneLaw t) u x (record { took = d.took; pushed = d.pushed; refused = d.refused; dids = d.dids ++ dids })) (sym q)
+    subst (λ (x : Ask). After t (DoorQuiet t) (DoorDoneLaw t) u x (record { took = d.took; pushed = d.pushed; refused = d.refused; dids = d.dids ++ dids })) (sym q)
     (still t s u d dids h (ap (λ (x : DoorState). x.given) j) (λ z. h.early e) (ap (λ (x : List Did). collect drew_pair (collect accept_in x)) i) (ap (λ (x : List Did). collect stop_in x) i) (subst Counted (sym i) ((omega arith), (omega arith))))
 goes t s dids u ask d h (Refuses ip c none e a i j q) =
-    subst (λ (x : Ask). After (DoorQuiet t) (DoorDoneLaw t) u x (record { took = d.took; pushed = d.pushed; refused = d.refused; dids = d.dids ++ dids })) (sym q)
+    subst (λ (x : Ask). After t (DoorQuiet t) (DoorDoneLaw t) u x (record { took = d.took; pushed = d.pushed; refused = d.refused; dids = d.dids ++ dids })) (sym q)
     (still t s u d dids h (ap (λ (x : DoorState). x.given) j) (λ z. h.early e) (ap (λ (x : List Did). collect drew_pair (collect accept_in x)) i ∙ ap (λ (x : List (ℕ × ℕ)). x ++ []) (unpaired ip c none)) (ap (λ (x : List Did). collect stop_in x) i) (subst Counted (sym i) ((omega arith), (let z : length (drew c ++ []) ≡ 0 = ap (λ (xs : List ℕ). length (xs ++ [])) none in omega arith))))
   where
     unpaired : (n : ℕ) (x : Claim) → drew x ≡ [] → drew_pair (n, x) ≡ []
@@ -91,7 +91,7 @@ goes t s dids u ask d h (Draws ip n e a i j q) =
     let zero_given : s.given ≡ 0 = h.early e in
     let g : u.given ≡ 0 = ap (λ (x : DoorState). x.given) j ∙ zero_given in
     let all : d.pushed ≡ h.links = sym (append-nil d.pushed) ∙ h.split ∙ ap (λ k. h.links ++ says k) zero_given ∙ append-nil h.links in
-    subst (λ (x : Ask). After (DoorQuiet t) (DoorDoneLaw t) u x (record { took = d.took; pushed = d.pushed; refused = d.refused; dids = d.dids ++ dids })) (sym q)
+    subst (λ (x : Ask). After t (DoorQuiet t) (DoorDoneLaw t) u x (record { took = d.took; pushed = d.pushed; refused = d.refused; dids = d.dids ++ dids })) (sym q)
     (pushes t u (Reactor (reactor_of t n)) (FreshMsg ip n) (record { took = d.took; pushed = d.pushed; refused = d.refused; dids = d.dids ++ dids }) (ap (λ (x : DoorState). x.to) j)
     (record {
       links = h.links ++ (Reactor (reactor_of t n), FreshMsg ip n) ∷ [];
@@ -108,7 +108,7 @@ goes t s dids u ask d h (Draws ip n e a i j q) =
 goes t s dids u ask d h (SaysNext e lt i j q) =
     let g : u.given ≡ s.given + 1 = ap (λ (x : DoorState). x.given) j in
     let same : d.dids ++ dids ≡ d.dids = ap (λ (x : List Did). d.dids ++ x) i ∙ append-nil d.dids in
-    subst (λ (x : Ask). After (DoorQuiet t) (DoorDoneLaw t) u x (record { took = d.took; pushed = d.pushed; refused = d.refused; dids = d.dids ++ dids })) (sym q)
+    subst (λ (x : Ask). After t (DoorQuiet t) (DoorDoneLaw t) u x (record { took = d.took; pushed = d.pushed; refused = d.refused; dids = d.dids ++ dids })) (sym q)
     (pushes t u (Reactor s.given) NoMore (record { took = d.took; pushed = d.pushed; refused = d.refused; dids = d.dids ++ dids }) (ap (λ (x : DoorState). x.to) j)
     (record {
       links = h.links;
@@ -125,16 +125,16 @@ goes t s dids u ask d h (SaysNext e lt i j q) =
     more : (k : ℕ) → says k ++ (Reactor k, NoMore) ∷ [] ≡ says (k + 1)
     more k = let z : suc k ≡ k + 1 = omega arith in ap says z
 goes t s dids u ask d h (Finishes e ge i j q) =
-    subst (λ (x : Ask). After (DoorQuiet t) (DoorDoneLaw t) u x (record { took = d.took; pushed = d.pushed; refused = d.refused; dids = d.dids ++ dids })) (sym q) (
+    subst (λ (x : Ask). After t (DoorQuiet t) (DoorDoneLaw t) u x (record { took = d.took; pushed = d.pushed; refused = d.refused; dids = d.dids ++ dids })) (sym q) (
       still t s u d dids h (ap (λ (x : DoorState). x.given) j) (λ z. absurd (let v : true ≡ false = sym e ∙ ap (λ (x : DoorState). x.ending) (sym j) ∙ z in cc)) (ap (λ (x : List Did). collect drew_pair (collect accept_in x)) i) (ap (λ (x : List Did). collect stop_in x) i) (subst Counted (sym i) nothing_counted),
       λ lt. ge (subst (λ (x : DoorState). x.given < t.reactor_num) j lt),
     )
 
-pub door_keeps : (t : Terms) (s : DoorState) (got : Got) (dids : List Did) (u : DoorState) (ask : Ask) (d : Diary) → DoorTurn t s got dids u ask → DoorQuiet t s got d → After (DoorQuiet t) (DoorDoneLaw t) u ask (record { took = d.took; pushed = d.pushed; refused = d.refused; dids = d.dids ++ dids })
+pub door_keeps : (t : Terms) (s : DoorState) (got : Got) (dids : List Did) (u : DoorState) (ask : Ask) (d : Diary) → DoorTurn t s got dids u ask → DoorQuiet t s got d → After t (DoorQuiet t) (DoorDoneLaw t) u ask (record { took = d.took; pushed = d.pushed; refused = d.refused; dids = d.dids ++ dids })
 door_keeps t s (GotFull m) dids u ask d g h =
-    subst (λ (x : Ask). After (DoorQuiet t) (DoorDoneLaw t) u x (record { took = d.took; pushed = d.pushed; refused = d.refused; dids = d.dids ++ dids })) (sym g.1.1)
-    (subst (λ (v : DoorState). After (DoorQuiet t) (DoorDoneLaw t) v (AskPush s.to m) (record { took = d.took; pushed = d.pushed; refused = d.refused; dids = d.dids ++ dids })) (sym g.1.0)
-    (subst (λ (x : List Did). After (DoorQuiet t) (DoorDoneLaw t) s (AskPush s.to m) (record { took = d.took; pushed = d.pushed; refused = d.refused; dids = x })) (sym (ap (λ (x : List Did). d.dids ++ x) g.0 ∙ append-nil d.dids))
+    subst (λ (x : Ask). After t (DoorQuiet t) (DoorDoneLaw t) u x (record { took = d.took; pushed = d.pushed; refused = d.refused; dids = d.dids ++ dids })) (sym g.1.1)
+    (subst (λ (v : DoorState). After t (DoorQuiet t) (DoorDoneLaw t) v (AskPush s.to m) (record { took = d.took; pushed = d.pushed; refused = d.refused; dids = d.dids ++ dids })) (sym g.1.0)
+    (subst (λ (x : List Did). After t (DoorQuiet t) (DoorDoneLaw t) s (AskPush s.to m) (record { took = d.took; pushed = d.pushed; refused = d.refused; dids = x })) (sym (ap (λ (x : List Did). d.dids ++ x) g.0 ∙ append-nil d.dids))
     (pushes t s s.to m d refl h)))
 door_keeps t s GotStart dids u ask d g h = goes t s dids u ask d h g
 door_keeps t s (GotTook m) dids u ask d g h = goes t s dids u ask d h g

@@ -1,5 +1,5 @@
 -- The door as the only actor of a family.
-use Rattle.std.proofs.Common.{◌≡◌, true, false, List, [], ◌∷◌, ◌++◌, refl, sym, ◌∙◌, subst, append-nil, arith, inl}
+use Rattle.std.proofs.Common.{◌≡◌, true, false, List, [], ◌∷◌, ◌++◌, refl, sym, ◌∙◌, subst, arith, inl}
 use Rattle.sw_lists.specs.Lists.{Each}
 use Rattle.sw_step.specs.declared.actor.ActorId.{ActorId}
 use Rattle.sw_step.specs.declared.actor.ActorId.TheVariants.{Door, Reactor, Worker, Tasker}
@@ -28,9 +28,9 @@ DQuiet t y s got d = (y ≡ Door) × DoorQuiet t s got d
 abbrev pub DDone : Terms → ActorId → DoorState → Diary → Type 0
 DDone t y s d = (y ≡ Door) × DoorDoneLaw t s d
 
-pub door_after : (t : Terms) (y : ActorId) (u : DoorState) (ask : Ask) (d : Diary) → y ≡ Door → After (DoorQuiet t) (DoorDoneLaw t) u ask d → After (DQuiet t y) (DDone t y) u ask d
+pub door_after : (t : Terms) (y : ActorId) (u : DoorState) (ask : Ask) (d : Diary) → y ≡ Door → After t (DoorQuiet t) (DoorDoneLaw t) u ask d → After t (DQuiet t y) (DDone t y) u ask d
 door_after t y u AskTake d e h = ((e, h.0), λ who m. (e, h.1 who m))
-door_after t y u (AskPush to m) d e h = ((e, h.0), (e, h.1))
+door_after t y u (AskPush to m) d e h = (λ has. (e, h.0 has), (e, h.1))
 door_after t y u AskNothing d e h = (e, h)
 door_after t y u AskRest d e h = (e, h)
 door_after t y u AskFinished d e h = (e, h)
@@ -46,9 +46,9 @@ quiet_holds t s GotEmpty d h = ([], h)
 quiet_holds t s GotPushed d h = ([], h)
 quiet_holds t s GotNothing d h = ([], h)
 
-after_holds : (t : Terms) (y : ActorId) (u : DoorState) (ask : Ask) (d : Diary) → After (DQuiet t y) (DDone t y) u ask d → (y ≡ Door) × Holding t u d
+after_holds : (t : Terms) (y : ActorId) (u : DoorState) (ask : Ask) (d : Diary) → After t (DQuiet t y) (DDone t y) u ask d → (y ≡ Door) × Holding t u d
 after_holds t y u AskTake d h = (h.0.0, ([], h.0.1))
-after_holds t y u (AskPush to m) d h = let k = h.0.1 in (h.0.0, ((to, m) ∷ [], record { links = k.links; split = sym (append-nil (d.pushed ++ (to, m) ∷ [])) ∙ k.split; only = k.only; early = k.early; few = k.few; drawn = k.drawn; stops = k.stops; accepted = k.accepted; refused = k.refused }))
+after_holds t y u (AskPush to m) d h = let k = h.1.1 in (h.1.0, ((u.to, m) ∷ [], record { links = k.links; split = k.split; only = k.only; early = k.early; few = k.few; drawn = k.drawn; stops = k.stops; accepted = k.accepted; refused = k.refused }))
 after_holds t y u AskNothing d h = (h.0, ([], h.1))
 after_holds t y u AskRest d h = (h.0, ([], h.1))
 after_holds t y u AskFinished d h = (h.0, ([], h.1.0))
@@ -63,7 +63,7 @@ shows_door t y s d e h =
       tasker = λ k lt i. absurd (let q : Door ≡ Tasker k = sym e ∙ i in cc);
     }
 
-pub doors_show_after : (t : Terms) (y : ActorId) (s : DoorState) (ask : Ask) (d : Diary) → After (DQuiet t y) (DDone t y) s ask d → Shows t y [] [] (λ n. untold) d
+pub doors_show_after : (t : Terms) (y : ActorId) (s : DoorState) (ask : Ask) (d : Diary) → After t (DQuiet t y) (DDone t y) s ask d → Shows t y [] [] (λ n. untold) d
 doors_show_after t y s ask d h = let k = after_holds t y s ask d h in shows_door t y s d k.0 k.1
 
 pub doors_done : (t : Terms) (y : ActorId) (s : DoorState) (d : Diary) → DDone t y s d → DoneShows t y [] [] d

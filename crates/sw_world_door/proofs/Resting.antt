@@ -71,21 +71,21 @@ silent t y =
       tasker = λ k lt e v. ([], refl);
     }
 
-pub rest_keeps : (y : ActorId) (s : Resting) (got : Got) (feed : Feed) (dids : List Did) (u : Resting) (ask : Ask) (d : Diary) → RestTurn y s got feed dids u ask → RestQuiet y s got d → After (RestQuiet y) (RestDone y) u ask (with_dids d dids)
-rest_keeps y s got feed dids u ask d turn quiet =
-    subst (λ (x : Ask). After (RestQuiet y) (RestDone y) u x (with_dids d dids)) (sym turn.1)
+pub rest_keeps : (t : Terms) (y : ActorId) (s : Resting) (got : Got) (feed : Feed) (dids : List Did) (u : Resting) (ask : Ask) (d : Diary) → RestTurn y s got feed dids u ask → RestQuiet y s got d → After t (RestQuiet y) (RestDone y) u ask (with_dids d dids)
+rest_keeps t y s got feed dids u ask d turn quiet =
+    subst (λ (x : Ask). After t (RestQuiet y) (RestDone y) u x (with_dids d dids)) (sym turn.1)
     (ap (λ (x : Diary). with_dids x dids) quiet ∙ ap (λ (x : List Did). with_dids no_diary x) turn.0)
 
 -- whatever it asks, its law says that it did nothing so far
-quiet_after : (y : ActorId) (s : Resting) (ask : Ask) (d : Diary) → After (RestQuiet y) (RestDone y) s ask d → d ≡ no_diary
-quiet_after y s AskTake d h = h.0
-quiet_after y s (AskPush to m) d h = absurd (let q : d.pushed ++ (to, m) ∷ [] ≡ [] = ap (λ (x : Diary). x.pushed) h.0 in let r = (append_none d.pushed ((to, m) ∷ []) q).1 in cc)
-quiet_after y s AskNothing d h = h
-quiet_after y s AskRest d h = h
-quiet_after y s AskFinished d h = absurd h
+quiet_after : (t : Terms) (y : ActorId) (s : Resting) (ask : Ask) (d : Diary) → After t (RestQuiet y) (RestDone y) s ask d → d ≡ no_diary
+quiet_after t y s AskTake d h = h.0
+quiet_after t y s (AskPush to m) d h = absurd (let q : d.refused ++ (to, m) ∷ [] ≡ [] = ap (λ (x : Diary). x.refused) h.1 in let r = (append_none d.refused ((to, m) ∷ []) q).1 in cc)
+quiet_after t y s AskNothing d h = h
+quiet_after t y s AskRest d h = h
+quiet_after t y s AskFinished d h = absurd h
 
-pub rest_shows : (t : Terms) (y : ActorId) (s : Resting) (ask : Ask) (d : Diary) → After (RestQuiet y) (RestDone y) s ask d → Shows t y [] [] (λ n. untold) d
-rest_shows t y s ask d h = subst (Shows t y [] [] (λ n. untold)) (sym (quiet_after y s ask d h)) (silent t y)
+pub rest_shows : (t : Terms) (y : ActorId) (s : Resting) (ask : Ask) (d : Diary) → After t (RestQuiet y) (RestDone y) s ask d → Shows t y [] [] (λ n. untold) d
+rest_shows t y s ask d h = subst (Shows t y [] [] (λ n. untold)) (sym (quiet_after t y s ask d h)) (silent t y)
 
 abbrev pub resting : (t : Terms) → Actors t
 resting t =
@@ -104,7 +104,7 @@ resting t =
       Lost = λ y s d. ⊥;
       starts = λ y h. refl;
       starts_empty = λ y. refl;
-      keeps = rest_keeps;
+      keeps = rest_keeps t;
       fails = λ y s got feed dids u d turn q. absurd turn;
       may = λ y s got feed dids u ask turn. subst (Each (MayDo t y)) (sym turn.0) tt;
       fails_may = λ y s got feed dids u turn. absurd turn;

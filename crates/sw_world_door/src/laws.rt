@@ -15,7 +15,7 @@ ghost use Rattle.sw_world_door.specs.Doors.{DoorState, DoorTurn, DoorHolds, Door
 pub fn turns_keep_the_law()
     ensures { (t : Terms) (s : DoorState) (got : Got) (dids : List Did) (u : DoorState) (ask : Ask) (d : Diary) →
         DoorTurn t s got dids u ask → DoorQuiet t s got d →
-        After (DoorQuiet t) (DoorDoneLaw t) u ask (with_dids d dids) }
+        After t (DoorQuiet t) (DoorDoneLaw t) u ask (with_dids d dids) }
 {}
 
 /// The law shows what the world asks of a door.

@@ -39,33 +39,33 @@ mix_fails f g y (inr s) got feed dids (inr u) = g y s got feed dids u
 mix_fails f g y (inl s) got feed dids (inr u) = ⊥
 mix_fails f g y (inr s) got feed dids (inl u) = ⊥
 
-left_after : {P Q : Type 0} (f : ActorId → P → Got → Diary → Type 0) (g : ActorId → Q → Got → Diary → Type 0) (fd : ActorId → P → Diary → Type 0) (gd : ActorId → Q → Diary → Type 0) (y : ActorId) (s : P) (ask : Ask) (d : Diary) → After (f y) (fd y) s ask d → After (mix_quiet f g y) (mix_done fd gd y) (inl s) ask d
-left_after f g fd gd y s AskTake d h = h
-left_after f g fd gd y s (AskPush to m) d h = h
-left_after f g fd gd y s AskNothing d h = h
-left_after f g fd gd y s AskRest d h = h
-left_after f g fd gd y s AskFinished d h = h
+left_after : {P Q : Type 0} (t : Terms) (f : ActorId → P → Got → Diary → Type 0) (g : ActorId → Q → Got → Diary → Type 0) (fd : ActorId → P → Diary → Type 0) (gd : ActorId → Q → Diary → Type 0) (y : ActorId) (s : P) (ask : Ask) (d : Diary) → After t (f y) (fd y) s ask d → After t (mix_quiet f g y) (mix_done fd gd y) (inl s) ask d
+left_after t f g fd gd y s AskTake d h = h
+left_after t f g fd gd y s (AskPush to m) d h = h
+left_after t f g fd gd y s AskNothing d h = h
+left_after t f g fd gd y s AskRest d h = h
+left_after t f g fd gd y s AskFinished d h = h
 
-right_after : {P Q : Type 0} (f : ActorId → P → Got → Diary → Type 0) (g : ActorId → Q → Got → Diary → Type 0) (fd : ActorId → P → Diary → Type 0) (gd : ActorId → Q → Diary → Type 0) (y : ActorId) (s : Q) (ask : Ask) (d : Diary) → After (g y) (gd y) s ask d → After (mix_quiet f g y) (mix_done fd gd y) (inr s) ask d
-right_after f g fd gd y s AskTake d h = h
-right_after f g fd gd y s (AskPush to m) d h = h
-right_after f g fd gd y s AskNothing d h = h
-right_after f g fd gd y s AskRest d h = h
-right_after f g fd gd y s AskFinished d h = h
+right_after : {P Q : Type 0} (t : Terms) (f : ActorId → P → Got → Diary → Type 0) (g : ActorId → Q → Got → Diary → Type 0) (fd : ActorId → P → Diary → Type 0) (gd : ActorId → Q → Diary → Type 0) (y : ActorId) (s : Q) (ask : Ask) (d : Diary) → After t (g y) (gd y) s ask d → After t (mix_quiet f g y) (mix_done fd gd y) (inr s) ask d
+right_after t f g fd gd y s AskTake d h = h
+right_after t f g fd gd y s (AskPush to m) d h = h
+right_after t f g fd gd y s AskNothing d h = h
+right_after t f g fd gd y s AskRest d h = h
+right_after t f g fd gd y s AskFinished d h = h
 
-left_back : {P Q : Type 0} (f : ActorId → P → Got → Diary → Type 0) (g : ActorId → Q → Got → Diary → Type 0) (fd : ActorId → P → Diary → Type 0) (gd : ActorId → Q → Diary → Type 0) (y : ActorId) (s : P) (ask : Ask) (d : Diary) → After (mix_quiet f g y) (mix_done fd gd y) (inl s) ask d → After (f y) (fd y) s ask d
-left_back f g fd gd y s AskTake d h = h
-left_back f g fd gd y s (AskPush to m) d h = h
-left_back f g fd gd y s AskNothing d h = h
-left_back f g fd gd y s AskRest d h = h
-left_back f g fd gd y s AskFinished d h = h
+left_back : {P Q : Type 0} (t : Terms) (f : ActorId → P → Got → Diary → Type 0) (g : ActorId → Q → Got → Diary → Type 0) (fd : ActorId → P → Diary → Type 0) (gd : ActorId → Q → Diary → Type 0) (y : ActorId) (s : P) (ask : Ask) (d : Diary) → After t (mix_quiet f g y) (mix_done fd gd y) (inl s) ask d → After t (f y) (fd y) s ask d
+left_back t f g fd gd y s AskTake d h = h
+left_back t f g fd gd y s (AskPush to m) d h = h
+left_back t f g fd gd y s AskNothing d h = h
+left_back t f g fd gd y s AskRest d h = h
+left_back t f g fd gd y s AskFinished d h = h
 
-right_back : {P Q : Type 0} (f : ActorId → P → Got → Diary → Type 0) (g : ActorId → Q → Got → Diary → Type 0) (fd : ActorId → P → Diary → Type 0) (gd : ActorId → Q → Diary → Type 0) (y : ActorId) (s : Q) (ask : Ask) (d : Diary) → After (mix_quiet f g y) (mix_done fd gd y) (inr s) ask d → After (g y) (gd y) s ask d
-right_back f g fd gd y s AskTake d h = h
-right_back f g fd gd y s (AskPush to m) d h = h
-right_back f g fd gd y s AskNothing d h = h
-right_back f g fd gd y s AskRest d h = h
-right_back f g fd gd y s AskFinished d h = h
+right_back : {P Q : Type 0} (t : Terms) (f : ActorId → P → Got → Diary → Type 0) (g : ActorId → Q → Got → Diary → Type 0) (fd : ActorId → P → Diary → Type 0) (gd : ActorId → Q → Diary → Type 0) (y : ActorId) (s : Q) (ask : Ask) (d : Diary) → After t (mix_quiet f g y) (mix_done fd gd y) (inr s) ask d → After t (g y) (gd y) s ask d
+right_back t f g fd gd y s AskTake d h = h
+right_back t f g fd gd y s (AskPush to m) d h = h
+right_back t f g fd gd y s AskNothing d h = h
+right_back t f g fd gd y s AskRest d h = h
+right_back t f g fd gd y s AskFinished d h = h
 
 pub mixed_starts : (t : Terms) (p q : Actors t) (y : ActorId) (b : Bool) → p.mine y ≡ b → (if b then true else q.mine y) ≡ true → mix_quiet p.Quiet q.Quiet y (mix_start b (p.start y) (q.start y)) GotStart no_diary
 mixed_starts t p q y true e h = p.starts y e
@@ -75,9 +75,9 @@ pub mixed_empty : (t : Terms) (p q : Actors t) (y : ActorId) (b : Bool) → mix_
 mixed_empty t p q y true = p.starts_empty y
 mixed_empty t p q y false = q.starts_empty y
 
-pub mixed_keeps : (t : Terms) (p q : Actors t) (y : ActorId) (s : p.State ⊎ q.State) (got : Got) (feed : Feed) (dids : List Did) (u : p.State ⊎ q.State) (ask : Ask) (d : Diary) → mix_turn p.Turn q.Turn y s got feed dids u ask → mix_quiet p.Quiet q.Quiet y s got d → After (mix_quiet p.Quiet q.Quiet y) (mix_done p.Done q.Done y) u ask (with_dids d dids)
-mixed_keeps t p q y (inl s) got feed dids (inl u) ask d turn quiet = left_after p.Quiet q.Quiet p.Done q.Done y u ask (with_dids d dids) (p.keeps y s got feed dids u ask d turn quiet)
-mixed_keeps t p q y (inr s) got feed dids (inr u) ask d turn quiet = right_after p.Quiet q.Quiet p.Done q.Done y u ask (with_dids d dids) (q.keeps y s got feed dids u ask d turn quiet)
+pub mixed_keeps : (t : Terms) (p q : Actors t) (y : ActorId) (s : p.State ⊎ q.State) (got : Got) (feed : Feed) (dids : List Did) (u : p.State ⊎ q.State) (ask : Ask) (d : Diary) → mix_turn p.Turn q.Turn y s got feed dids u ask → mix_quiet p.Quiet q.Quiet y s got d → After t (mix_quiet p.Quiet q.Quiet y) (mix_done p.Done q.Done y) u ask (with_dids d dids)
+mixed_keeps t p q y (inl s) got feed dids (inl u) ask d turn quiet = left_after t p.Quiet q.Quiet p.Done q.Done y u ask (with_dids d dids) (p.keeps y s got feed dids u ask d turn quiet)
+mixed_keeps t p q y (inr s) got feed dids (inr u) ask d turn quiet = right_after t p.Quiet q.Quiet p.Done q.Done y u ask (with_dids d dids) (q.keeps y s got feed dids u ask d turn quiet)
 mixed_keeps t p q y (inl s) got feed dids (inr u) ask d turn quiet = absurd turn
 mixed_keeps t p q y (inr s) got feed dids (inl u) ask d turn quiet = absurd turn
 
@@ -115,9 +115,9 @@ pub mixed_shows : (t : Terms) (p q : Actors t) (y : ActorId) (s : p.State ⊎ q.
 mixed_shows t p q y (inl s) got d h = p.shows y s got d h
 mixed_shows t p q y (inr s) got d h = q.shows y s got d h
 
-pub mixed_shows_after : (t : Terms) (p q : Actors t) (y : ActorId) (s : p.State ⊎ q.State) (ask : Ask) (d : Diary) → After (mix_quiet p.Quiet q.Quiet y) (mix_done p.Done q.Done y) s ask d → Shows t y (mix_of p.log q.log s) (mix_of p.kept q.kept s) (mix_of p.told q.told s) d
-mixed_shows_after t p q y (inl s) ask d h = p.shows_after y s ask d (left_back p.Quiet q.Quiet p.Done q.Done y s ask d h)
-mixed_shows_after t p q y (inr s) ask d h = q.shows_after y s ask d (right_back p.Quiet q.Quiet p.Done q.Done y s ask d h)
+pub mixed_shows_after : (t : Terms) (p q : Actors t) (y : ActorId) (s : p.State ⊎ q.State) (ask : Ask) (d : Diary) → After t (mix_quiet p.Quiet q.Quiet y) (mix_done p.Done q.Done y) s ask d → Shows t y (mix_of p.log q.log s) (mix_of p.kept q.kept s) (mix_of p.told q.told s) d
+mixed_shows_after t p q y (inl s) ask d h = p.shows_after y s ask d (left_back t p.Quiet q.Quiet p.Done q.Done y s ask d h)
+mixed_shows_after t p q y (inr s) ask d h = q.shows_after y s ask d (right_back t p.Quiet q.Quiet p.Done q.Done y s ask d h)
 
 pub mixed_done : (t : Terms) (p q : Actors t) (y : ActorId) (s : p.State ⊎ q.State) (d : Diary) → mix_done p.Done q.Done y s d → DoneShows t y (mix_of p.log q.log s) (mix_of p.kept q.kept s) d
 mixed_done t p q y (inl s) d h = p.done_shows y s d h

@@ -5,7 +5,7 @@ use Rattle.sw_lists.specs.Lists.{collect, Each, Has}
 use Rattle.sw_lists.specs.Numbers.{Rises}
 use Rattle.sw_lists.proofs.Lists.{eq_other, collect-append, each_right, length_append}
 use Rattle.sw_step.specs.declared.actor.ActorId.{ActorId}
-use Rattle.sw_step.specs.declared.actor.ActorId.TheVariants.{Door, Reactor, Tasker}
+use Rattle.sw_step.specs.declared.actor.ActorId.TheVariants.{Door, Reactor, Worker, Tasker}
 use Rattle.sw_step.specs.Actors.{is}
 use Rattle.sw_record.specs.Terms.{Terms, reactor_of}
 use Rattle.sw_record.specs.Own.{StandsEarly}
@@ -21,7 +21,7 @@ use Rattle.sw_join.specs.Modes.{AimOf, EndOf}
 use Rattle.sw_world_ports.specs.Ports.{set_at}
 use Rattle.sw_world_ports.proofs.Frame.{frame}
 use Rattle.sw_world_ports.proofs.Haves.{Place, AtLast, Before, place_of}
-use Rattle.sw_world_laws.specs.Turns.{AskTake, AskPush, GotTook, GotEmpty, GotPushed, GotFull, After}
+use Rattle.sw_world_laws.specs.Turns.{AskTake, AskPush, GotTook, GotEmpty, GotPushed, GotFull, HasPipe, After}
 use Rattle.sw_world_laws.specs.Actors.{Actors}
 use Rattle.sw_world_laws.specs.World.{Gave, Core, there, took_of, left_of, has_room, taken, pushed_by}
 use Rattle.sw_world_laws.specs.History.{History, diary_of, past_of, LocalBy}
@@ -80,7 +80,7 @@ notes_take t legal p c h l y e rest q n z k ip s early back eq = pick (is (React
     pick false i g = l.notes n z k ip s early back g
 
 -- a take
-took_keeps : (t : Terms) (legal : List Ran → Type 0) (p : Actors t) (c : Core p.State) (h : History) → Holds t legal p c h → c.lost ≡ false → (y : ActorId) → there t y ≡ true → After (p.Quiet y) (p.Done y) (c.states y) AskTake (diary_of h y) → (rest : Mail) → h.sent y ≡ h.took y ++ rest → (ms : List Message) → bare rest ≡ ms → Law t legal p (record c { nexts = set_at c.nexts y (Gave (took_of ms)); pipes = set_at c.pipes y (left_of ms) })
+took_keeps : (t : Terms) (legal : List Ran → Type 0) (p : Actors t) (c : Core p.State) (h : History) → Holds t legal p c h → c.lost ≡ false → (y : ActorId) → there t y ≡ true → After t (p.Quiet y) (p.Done y) (c.states y) AskTake (diary_of h y) → (rest : Mail) → h.sent y ≡ h.took y ++ rest → (ms : List Message) → bare rest ≡ ms → Law t legal p (record c { nexts = set_at c.nexts y (Gave (took_of ms)); pipes = set_at c.pipes y (left_of ms) })
 took_keeps t legal p c h l was y th q [] split [] inside = (
   h,
   record {
@@ -120,8 +120,13 @@ took_keeps t legal p c h l was y th q ((who, n) ∷ rest) split (m ∷ ms) insid
       },
     )
 
-pub taken_keeps : (t : Terms) (legal : List Ran → Type 0) (p : Actors t) (c : Core p.State) (h : History) → Holds t legal p c h → c.lost ≡ false → (y : ActorId) → there t y ≡ true → After (p.Quiet y) (p.Done y) (c.states y) AskTake (diary_of h y) → Law t legal p (taken c y)
+pub taken_keeps : (t : Terms) (legal : List Ran → Type 0) (p : Actors t) (c : Core p.State) (h : History) → Holds t legal p c h → c.lost ≡ false → (y : ActorId) → there t y ≡ true → After t (p.Quiet y) (p.Done y) (c.states y) AskTake (diary_of h y) → Law t legal p (taken c y)
 taken_keeps t legal p c h l was y th q = let k = l.lies y in took_keeps t legal p c h l was y th q k.rest k.split (c.pipes y) k.inside
+
+-- a test of two that is passed
+test : (n k : ℕ) (b c : Bool) → nat_lt n k ≡ b → (if b then c else false) ≡ true → n < k
+test n k true c e q = grind (arith, nat_tests)
+test n k false c e q = absurd (cc)
 
 -- one more in a list
 has_more : {A : Type 0} (x : A) (xs : List A) (e : A) → Has x (xs ++ e ∷ []) → Has x xs ⊎ (e ≡ x)
@@ -133,6 +138,13 @@ has_more x (y ∷ xs) e (suc k, q) = elim (has_more x xs e (k, q)) [ inl h ↦ i
 length_bare : (ms : Mail) → length (bare ms) ≡ length ms
 length_bare [] = refl
 length_bare (m ∷ ms) = ap (λ n. suc n) (length_bare ms)
+
+-- who has room has a pipe
+room_pipe : (t : Terms) (x : ActorId) (ms : List Message) → has_room t x ms ≡ true → HasPipe t x
+room_pipe t Door ms q = absurd (cc)
+room_pipe t (Reactor n) ms q = test n t.reactor_num (nat_lt n t.reactor_num) (nat_lt (length ms) t.pipe_capacity) refl q
+room_pipe t (Worker n) ms q = test n t.worker_num (nat_lt n t.worker_num) (nat_lt (length ms) t.pipe_capacity) refl q
+room_pipe t (Tasker n) ms q = test n t.tasker_num (nat_lt n t.tasker_num) (nat_lt (length ms) t.pipe_capacity) refl q
 
 -- a pipe without room has all that it can hold
 no_room : (t : Terms) (x : ActorId) (ms : List Message) (n : ℕ) → x ≡ Tasker n → n < t.tasker_num → has_room t x ms ≡ false → t.pipe_capacity ≤ length ms
@@ -149,14 +161,14 @@ longer f x e z k h = pick (is z x)
     pick true = (let a : length (f z ++ e ∷ []) ≡ length (f z) + 1 = length_append (f z) (e ∷ []) in omega arith)
     pick false = h
 
-pub pushed_keeps : (t : Terms) (legal : List Ran → Type 0) (p : Actors t) (c : Core p.State) (h : History) → Holds t legal p c h → (y x : ActorId) (m : Message) → there t y ≡ true → After (p.Quiet y) (p.Done y) (c.states y) (AskPush x m) (diary_of h y) → (b : Bool) → has_room t x (c.pipes x) ≡ b → Law t legal p (pushed_by c y x m b)
+pub pushed_keeps : (t : Terms) (legal : List Ran → Type 0) (p : Actors t) (c : Core p.State) (h : History) → Holds t legal p c h → (y x : ActorId) (m : Message) → there t y ≡ true → After t (p.Quiet y) (p.Done y) (c.states y) (AskPush x m) (diary_of h y) → (b : Bool) → has_room t x (c.pipes x) ≡ b → Law t legal p (pushed_by c y x m b)
 pushed_keeps t legal p c h l y x m th q true room =
     let e : ActorId × Message = (x, m) in
     let f : ActorId × Message = (y, m) in
     let k : Lies (h.took x) (h.sent x) (c.pipes x) = l.lies x in (
       record h { pushed = put h.pushed y e; sent = put h.sent x f },
       record {
-        local = frame y (λ b z. there t z ≡ true → LocalBy t p z (c.states z) (if b then Gave GotPushed else c.nexts z) (record { took = h.took z; pushed = (if b then h.pushed z ++ e ∷ [] else h.pushed z); refused = h.refused z; dids = h.dids z })) (λ i. q.0) l.local;
+        local = frame y (λ b z. there t z ≡ true → LocalBy t p z (c.states z) (if b then Gave GotPushed else c.nexts z) (record { took = h.took z; pushed = (if b then h.pushed z ++ e ∷ [] else h.pushed z); refused = h.refused z; dids = h.dids z })) (λ i. q.0 (room_pipe t x (c.pipes x) room)) l.local;
         absent = frame y (λ b z. there t z ≡ false → (if b then h.pushed z ++ e ∷ [] else h.pushed z) ≡ []) (λ i. absurd (let j : true ≡ false = sym th ∙ i in cc)) l.absent;
         sound = λ ok. frame y (λ b z. IsSound (if b then Gave GotPushed else c.nexts z)) tt (l.sound ok);
         may = l.may;

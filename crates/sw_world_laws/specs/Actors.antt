@@ -54,7 +54,7 @@ pub record Actors (t : Terms) : Type 1 where
   -- the law holds at the start, and each turn keeps it
   pub starts : (y : ActorId) → mine y ≡ true → Quiet y (start y) GotStart no_diary
   pub starts_empty : (y : ActorId) → log (start y) ≡ []
-  pub keeps : (y : ActorId) (s : State) (got : Got) (feed : Feed) (dids : List Did) (u : State) (ask : Ask) (d : Diary) → Turn y s got feed dids u ask → Quiet y s got d → After (Quiet y) (Done y) u ask (with_dids d dids)
+  pub keeps : (y : ActorId) (s : State) (got : Got) (feed : Feed) (dids : List Did) (u : State) (ask : Ask) (d : Diary) → Turn y s got feed dids u ask → Quiet y s got d → After t (Quiet y) (Done y) u ask (with_dids d dids)
   pub fails : (y : ActorId) (s : State) (got : Got) (feed : Feed) (dids : List Did) (u : State) (d : Diary) → Fails y s got feed dids u → Quiet y s got d → Lost y u (with_dids d dids)
   -- who makes which calls, and how logs grow
   pub may : (y : ActorId) (s : State) (got : Got) (feed : Feed) (dids : List Did) (u : State) (ask : Ask) → Turn y s got feed dids u ask → Each (MayDo t y) dids
@@ -63,6 +63,6 @@ pub record Actors (t : Terms) : Type 1 where
   pub fails_still : (y : ActorId) (s : State) (got : Got) (feed : Feed) (dids : List Did) (u : State) → Fails y s got feed dids u → log u ≡ log s
   -- what the law shows
   pub shows : (y : ActorId) (s : State) (got : Got) (d : Diary) → Quiet y s got d → Shows t y (log s) (kept s) (told s) d
-  pub shows_after : (y : ActorId) (s : State) (ask : Ask) (d : Diary) → After (Quiet y) (Done y) s ask d → Shows t y (log s) (kept s) (told s) d
+  pub shows_after : (y : ActorId) (s : State) (ask : Ask) (d : Diary) → After t (Quiet y) (Done y) s ask d → Shows t y (log s) (kept s) (told s) d
   pub done_shows : (y : ActorId) (s : State) (d : Diary) → Done y s d → DoneShows t y (log s) (kept s) d
   pub lost_shows : (y : ActorId) (s : State) (d : Diary) → Lost y s d → LostShows t y (log s) d

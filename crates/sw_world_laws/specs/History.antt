@@ -31,5 +31,5 @@ past_of t p c h =
 -- an actor's local law, by what is next for it
 abbrev pub LocalBy : (t : Terms) (p : Actors t) → ActorId → p.State → Pending → Diary → Type 0
 LocalBy t p y s (Gave got) d = p.Quiet y s got d
-LocalBy t p y s (Waits ask) d = After (p.Quiet y) (p.Done y) s ask d
+LocalBy t p y s (Waits ask) d = After t (p.Quiet y) (p.Done y) s ask d
 LocalBy t p y s Lost d = p.Lost y s d

@@ -1,6 +1,8 @@
 -- What an actor gets at a turn and what it asks for, and what it did so far.
-use Rattle.std.specs.Prelude.{List, [], ◌∷◌, ◌++◌}
+use Rattle.std.specs.Prelude.{◌<◌, List, [], ◌∷◌, ◌++◌}
 use Rattle.sw_step.specs.declared.actor.ActorId.{ActorId}
+use Rattle.sw_step.specs.declared.actor.ActorId.TheVariants.{Door, Reactor, Worker, Tasker}
+use Rattle.sw_record.specs.Terms.{Terms}
 use Rattle.sw_past.specs.Messages.{Message}
 use Rattle.sw_past.specs.Past.{Mail}
 use Rattle.sw_world_ports.specs.Calls.{Did}
@@ -37,10 +39,17 @@ no_diary = record { took = []; pushed = []; refused = []; dids = [] }
 abbrev pub with_dids : Diary → List Did → Diary
 with_dids d ds = record d { dids = d.dids ++ ds }
 
+-- an actor that is there and has a pipe: what is pushed to anyone else is answered as by a full pipe
+abbrev pub HasPipe : Terms → ActorId → Type 0
+HasPipe t Door = ⊥
+HasPipe t (Reactor n) = n < t.reactor_num
+HasPipe t (Worker n) = n < t.worker_num
+HasPipe t (Tasker n) = n < t.tasker_num
+
 -- a law of what an actor got, with nothing on its way, makes one of what it asks, whatever the pipe answers
-abbrev pub After : {S : Type 0} → (S → Got → Diary → Type 0) → (S → Diary → Type 0) → S → Ask → Diary → Type 0
-After quiet done s AskTake d = quiet s GotEmpty d × ((who : ActorId) (m : Message) → quiet s (GotTook m) (record d { took = d.took ++ (who, m) ∷ [] }))
-After quiet done s (AskPush to m) d = quiet s GotPushed (record d { pushed = d.pushed ++ (to, m) ∷ [] }) × quiet s (GotFull m) (record d { refused = d.refused ++ (to, m) ∷ [] })
-After quiet done s AskNothing d = quiet s GotNothing d
-After quiet done s AskRest d = quiet s GotNothing d
-After quiet done s AskFinished d = done s d
+abbrev pub After : {S : Type 0} → Terms → (S → Got → Diary → Type 0) → (S → Diary → Type 0) → S → Ask → Diary → Type 0
+After t quiet done s AskTake d = quiet s GotEmpty d × ((who : ActorId) (m : Message) → quiet s (GotTook m) (record d { took = d.took ++ (who, m) ∷ [] }))
+After t quiet done s (AskPush to m) d = (HasPipe t to → quiet s GotPushed (record d { pushed = d.pushed ++ (to, m) ∷ [] })) × quiet s (GotFull m) (record d { refused = d.refused ++ (to, m) ∷ [] })
+After t quiet done s AskNothing d = quiet s GotNothing d
+After t quiet done s AskRest d = quiet s GotNothing d
+After t quiet done s AskFinished d = done s d

@@ -1,0 +1,6 @@
+pub mod Adding
+pub mod Calls
+pub mod Mail
+pub mod Showing
+pub mod Hands
+pub mod Family
