@@ -157,12 +157,12 @@ then_ran t s got dids u ask d h b =
             stopped e z = elim (join (stop_at s.last a.stop) (stop_read run) true e) [ inl q ↦ m.stops q z.1 | inr q ↦ os q z.0 ]
 
 -- whatever the pipe answers
-pub after_ran : (t : Terms) (y : ActorId) (u : Table) (d : Diary) → IsReactor t y → Ran t d.took d.pushed u d.dids → (l : TableAsk) → u.last ≡ l → After (RQuiet t y) (RDone t y) u (world_ask l) d
+pub after_ran : (t : Terms) (y : ActorId) (u : Table) (d : Diary) → IsReactor t y → Ran t d.took d.pushed u d.dids → (l : TableAsk) → u.last ≡ l → After t (RQuiet t y) (RDone t y) u (world_ask l) d
 after_ran t y u d i r Take e =
     ((i, record { took = d.took; pushed = d.pushed; ran = r; call = FoundNone e }),
     λ who m. (i, record { took = d.took; pushed = d.pushed; ran = r; call = TookOne e who m }))
 after_ran t y u d i r (Push w m) e =
-    ((i, record { took = d.took; pushed = d.pushed; ran = r; call = PushedOne w m e }),
+    ((λ there. (i, record { took = d.took; pushed = d.pushed; ran = r; call = PushedOne w m e })),
     (i, record { took = d.took; pushed = d.pushed; ran = r; call = CameBack w m e }))
 after_ran t y u d i r Nothing e = (i, record { took = d.took; pushed = d.pushed; ran = r; call = NoCall (inl e) })
 after_ran t y u d i r Rest e = (i, record { took = d.took; pushed = d.pushed; ran = r; call = NoCall (inr e) })
@@ -179,7 +179,7 @@ turn_ran t s GotPushed dids u ask d h q = then_ran t s GotPushed dids u ask d h 
 turn_ran t s (GotFull m) dids u ask d h q = then_ran t s (GotFull m) dids u ask d h q
 turn_ran t s GotNothing dids u ask d h q = then_ran t s GotNothing dids u ask d h q
 
-pub reactor_keeps : (t : Terms) (y : ActorId) (s : Table) (got : Got) (feed : Feed) (dids : List Did) (u : Table) (ask : Ask) (d : Diary) → RTurn t y s got feed dids u ask → RQuiet t y s got d → After (RQuiet t y) (RDone t y) u ask (with_dids d dids)
+pub reactor_keeps : (t : Terms) (y : ActorId) (s : Table) (got : Got) (feed : Feed) (dids : List Did) (u : Table) (ask : Ask) (d : Diary) → RTurn t y s got feed dids u ask → RQuiet t y s got d → After t (RQuiet t y) (RDone t y) u ask (with_dids d dids)
 reactor_keeps t y s got feed dids u ask d (i, h) (j, q) =
-    subst (λ (x : Ask). After (RQuiet t y) (RDone t y) u x (with_dids d dids)) (sym h.asks)
+    subst (λ (x : Ask). After t (RQuiet t y) (RDone t y) u x (with_dids d dids)) (sym h.asks)
     (after_ran t y u (with_dids d dids) i (turn_ran t s got dids u ask d h q) u.last refl)

@@ -310,7 +310,7 @@ all_shows t y s d i f =
 pub reactor_shows : (t : Terms) → 0 < t.worker_num → IsFit t.framing → (y : ActorId) (s : Table) (got : Got) (d : Diary) → RQuiet t y s got d → Shows t y [] (kept t s) (told_by s) d
 reactor_shows t some fit y s got d (i, q) = all_shows t y s d i (λ n lt. quiet_shows t some fit n lt s got d q)
 
-pub reactor_shows_after : (t : Terms) → 0 < t.worker_num → IsFit t.framing → (y : ActorId) (s : Table) (ask : Ask) (d : Diary) → After (RQuiet t y) (RDone t y) s ask d → Shows t y [] (kept t s) (told_by s) d
+pub reactor_shows_after : (t : Terms) → 0 < t.worker_num → IsFit t.framing → (y : ActorId) (s : Table) (ask : Ask) (d : Diary) → After t (RQuiet t y) (RDone t y) s ask d → Shows t y [] (kept t s) (told_by s) d
 reactor_shows_after t some fit y s AskTake d h = reactor_shows t some fit y s GotEmpty d h.0
 reactor_shows_after t some fit y s (AskPush to m) d h = all_shows t y s d h.1.0 (λ n lt. behind_shows t some fit n lt s (gots.Full m) d (record { took = h.1.1.took; pushed = h.1.1.pushed; ran = h.1.1.ran; call = h.1.1.call }))
 reactor_shows_after t some fit y s AskNothing d h = reactor_shows t some fit y s GotNothing d h

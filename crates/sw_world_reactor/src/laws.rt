@@ -15,7 +15,7 @@ ghost use Rattle.sw_world_reactor.specs.Reactors.{RTurn, RQuiet, RDone, told_by}
 pub fn turns_keep_the_law()
     ensures { (t : Terms) (y : ActorId) (s : Table) (got : Got) (feed : Feed) (dids : List Did) (u : Table) (ask : Ask)
         (d : Diary) → RTurn t y s got feed dids u ask → RQuiet t y s got d →
-        After (RQuiet t y) (RDone t y) u ask (with_dids d dids) }
+        After t (RQuiet t y) (RDone t y) u ask (with_dids d dids) }
 {}
 
 /// The law shows what the world asks of a reactor.
