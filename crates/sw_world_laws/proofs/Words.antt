@@ -1,22 +1,28 @@
 -- What a reactor's calls of one turn find of the session words, and what they are released with, agrees with the uids so far.
-use Rattle.std.proofs.Common.{◌≡◌, ◌⊎◌, ℕ, ◌<◌, ◌%◌, ◌==◌, Bool, true, false, if◌then◌else◌, List, [], ◌∷◌, ◌++◌, ap, ◌∙◌, sym, subst, inl, inr}
-use Rattle.sw_lists.specs.Lists.{collect, Each}
-use Rattle.sw_lists.proofs.Lists.{each_append, collect-append}
+use Rattle.std.proofs.Common.{◌≡◌, ◌⊎◌, ℕ, ◌<◌, ◌≤◌, ◌%◌, ◌^◌, ◌==◌, Bool, true, false, if◌then◌else◌, List, [], ◌∷◌, ◌++◌, ap, ◌∙◌, sym, subst, arith, inl, inr}
+use Rattle.sw_lists.specs.Lists.{collect, Each, Has}
+use Rattle.sw_lists.proofs.Lists.{each_append, each_at, each_more, collect-append}
 use Rattle.sw_step.specs.declared.actor.ActorId.{ActorId}
 use Rattle.sw_step.specs.declared.actor.ActorId.TheVariants.{Door, Reactor}
 use Rattle.sw_record.specs.Terms.{Terms}
 use Rattle.sw_record.specs.Places.{Ran}
 use Rattle.sw_world_ports.specs.Calls.{Did, Accepts, NoLink, NetOver, Looks, Lives, Other, Binds, Frees, Marks, Idles, Stops, SeesStop, Adds, Sums, Tables, TableRefuses, MayDo}
-use Rattle.sw_world_ports.specs.Made.{pass_in, found_in, free_in}
+use Rattle.sw_past.specs.Past.{bare}
+use Rattle.sw_past.specs.Views.{fresh_in}
+use Rattle.sw_join.specs.Modes.{AimOf, EndOf}
+use Rattle.sw_join.proofs.Told.{drawn_fresh}
+use Rattle.sw_world_ports.specs.Made.{accept_in, pass_in, found_in, free_in}
 use Rattle.sw_world_ports.specs.Ports.{Ports, AllAnswer, ported}
-use Rattle.sw_world_ports.specs.Law.{all_in}
+use Rattle.sw_world_ports.specs.Law.{all_in, drawn_by}
+use Rattle.sw_world_ports.proofs.Haves.{each_has}
+use Rattle.sw_world_ports.proofs.Claims.{claims_last}
 use Rattle.sw_world_ports.proofs.Uids.{uid_is}
 use Rattle.sw_world_laws.specs.Shows.{HasWord}
 use Rattle.sw_world_laws.specs.Actors.{Actors}
 use Rattle.sw_world_laws.specs.World.{Core}
-use Rattle.sw_world_laws.specs.History.{History}
+use Rattle.sw_world_laws.specs.History.{History, past_of}
 use Rattle.sw_world_laws.specs.Law.{Holds}
-use Rattle.sw_world_laws.proofs.Locals.{no_hand_reactor, uid_of, found_agree, freed_agree}
+use Rattle.sw_world_laws.proofs.Locals.{no_hand_reactor, locals, joint, uid_of, found_agree, freed_agree}
 
 -- a session that stands in its word stands there with its uid
 abbrev pub Agrees : Terms → (ℕ → ℕ × ℕ) → (ℕ → ℕ) → Type 0
@@ -68,3 +74,16 @@ words_then t legal p c h l n lt ds may ans =
       found = subst (Each (λ (q : ℕ × ℕ). (q.1 ≡ 0) ⊎ (q.1 ≡ uid_of t h q.0))) (sym (collect-append found_in (h.dids (Reactor n)) ds)) (each_append (λ (q : ℕ × ℕ). (q.1 ≡ 0) ⊎ (q.1 ≡ uid_of t h q.0)) (collect found_in (h.dids (Reactor n))) (collect found_in ds) (found_agree t legal p c h l n) new.0);
       freed = subst (Each (λ (q : ℕ × ℕ). q.1 ≡ uid_of t h q.0)) (sym (collect-append free_in (h.dids (Reactor n)) ds)) (each_append (λ (q : ℕ × ℕ). q.1 ≡ uid_of t h q.0) (collect free_in (h.dids (Reactor n))) (collect free_in ds) (freed_agree t legal p c h l n lt) new.1);
     }
+
+-- the sessions that came to a reactor are numbers of 32 bits, and each that it didn't release stands in its word
+pub took_low : (t : Terms) (legal : List Ran → Type 0) (p : Actors t) (c : Core p.State) (h : History) → Holds t legal p c h → (n : ℕ) → Each (λ s. (¬ (s ≡ 0)) × (s < 2 ^ 32)) (collect fresh_in (bare (h.took (Reactor n))))
+took_low t legal p c h l n = each_more (λ s. Has s (drawn_by h.dids)) (λ s. (¬ (s ≡ 0)) × (s < 2 ^ 32)) (collect fresh_in (bare (h.took (Reactor n)))) (λ s has. low s (each_has (λ r. (¬ (r ≡ 0)) × (r ≤ c.ports.last)) (drawn_by h.dids) s l.ports.words.book.low has)) drawn
+  where
+    drawn : Each (λ s. Has s (drawn_by h.dids)) (collect fresh_in (bare (h.took (Reactor n))))
+    drawn = drawn_fresh t (AimOf t) (EndOf t) (past_of t p c h) (locals t legal p c h l) (joint t legal p c h l) n (λ s. Has s (drawn_by h.dids)) (each_at (λ s. Has s (drawn_by h.dids)) (drawn_by h.dids) (λ s k. k))
+
+    below : c.ports.last < 2 ^ 32
+    below = subst (λ (k : ℕ). k < 2 ^ 32) (sym l.ports.words.book.last_is) (claims_last t.max_conn t.session_last [] (collect accept_in (h.dids Door)) l.ports.words.book.claims)
+
+    low : (s : ℕ) → (¬ (s ≡ 0)) × (s ≤ c.ports.last) → (¬ (s ≡ 0)) × (s < 2 ^ 32)
+    low s k = (k.0, (let a : s ≤ c.ports.last = k.1 in let b : c.ports.last < 2 ^ 32 = below in omega arith))

@@ -6,7 +6,7 @@ use Rattle.sw_data.specs.declared.messages.Got.{Got as TableGot}
 use Rattle.sw_frame.specs.Cutting.{next_of}
 use Rattle.sw_frame.specs.declared.next.Next.{Next}
 use Rattle.sw_frame.specs.declared.next.Next.TheVariants as next
-use Rattle.sw_record.specs.Words.{Event, Connect, Packet, Closed, Cause}
+use Rattle.sw_record.specs.Words.{Event, Connect, Packet, Closed, Cause, EndedCount}
 use Rattle.sw_record.specs.Terms.{Terms, keeps}
 use Rattle.sw_past.specs.Messages.{Message}
 use Rattle.sw_world_ports.specs.Calls.{Did, Looks, Lives, Other, Idles, Frees, Adds}
@@ -72,7 +72,7 @@ does_same t a x k s None (Pushes w e) ds h c = c
 does_same t a x k s (Some b) (Pushes w e) ds h c = c
 does_same t a x k s held Moves ds h c = c
 does_same t a x k s held Stays ds h c = c
-does_same t a x k s held (Leaves e) ds h c = (c.0, c.1 ∙ ap (λ (u : ℕ). Frees s u ∷ Adds _ ∷ []) (sym (h e refl)))
+does_same t a x k s held (Leaves e) ds h c = (c.0, c.1 ∙ ap (λ (u : ℕ). Frees s u ∷ Adds EndedCount ∷ []) (sym (h e refl)))
 
 next_same : (t : Terms) (a : Answers) (x : ℕ) (next : List Conn) (r : Table) (ds : List Did) → r.next ≡ next → Agrees t a x Take r → NextCalls t a r.round next ds → NextCalls t (with_release a x) r.round next ds
 next_same t a x [] r ds e h c = c

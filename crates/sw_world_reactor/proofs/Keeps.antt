@@ -146,13 +146,9 @@ then_ran t s got dids u ask d h b =
                   let y : length (collect free_in (d.dids ++ ds)) ≡ length (collect free_in d.dids) + length (collect free_in ds) = ap length (collect-append free_in d.dids ds) ∙ length_append (collect free_in d.dids) (collect free_in ds) in
                   let v : length (collect (add_in EndedCount) ds) ≤ length (collect free_in ds) = m.ends in omega arith);
               packets = ap length (collect-append (add_in PacketsCount) d.dids ds) ∙ length_append (collect (add_in PacketsCount) d.dids) (collect (add_in PacketsCount) ds) ∙ (let x : length (collect (add_in PacketsCount) ds) ≡ length (counts_in g s.last) = m.counts in let y : length (counted_in run ++ counts_in g s.last) ≡ length (counted_in run) + length (counts_in g s.last) = length_append (counted_in run) (counts_in g s.last) in omega arith);
-              stops = λ e z. (let k : (collect saw_stop_in d.dids ++ collect saw_stop_in ds) ≡ [] = sym (collect-append saw_stop_in d.dids ds) ∙ z in stopped e (none k));
+              stops = λ e z. (let k : (collect saw_stop_in d.dids ++ collect saw_stop_in ds) ≡ [] = sym (collect-append saw_stop_in d.dids ds) ∙ z in stopped e (append_none (collect saw_stop_in d.dids) (collect saw_stop_in ds) k));
             }
           where
-            none : {A : Type 0} {xs ys : List A} → xs ++ ys ≡ [] → (xs ≡ []) × (ys ≡ [])
-            none {A} {[]} {ys} e = (refl, e)
-            none {A} {x ∷ xs} {ys} e = absurd (cc)
-
             stopped : (if stop_at s.last a.stop then true else stop_read run) ≡ true → (collect saw_stop_in d.dids ≡ []) × (collect saw_stop_in ds ≡ []) → ⊥
             stopped e z = elim (join (stop_at s.last a.stop) (stop_read run) true e) [ inl q ↦ m.stops q z.1 | inr q ↦ os q z.0 ]
 

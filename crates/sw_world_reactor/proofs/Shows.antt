@@ -87,14 +87,14 @@ test_session s None e f = absurd (cc)
 test_session s (Some u) e f = (let i : u ≡ s = cc in ap (λ (b : Bool). if b then f else false) (eq_same u s i))
 
 ended_true : (f : Cause → Bool) (s : ℕ) (x : LinkState) (e : Ended) → x ≡ Over e → session_of x ≡ Some s → f e.cause ≡ true → ended_by f s x ≡ true
-ended_true f s x e is own yes = ap (ended_by f s) is ∙ test_session s e.session (sym (ap session_of is) ∙ own) (f e.cause) ∙ yes
+ended_true f s x e is own said = ap (ended_by f s) is ∙ test_session s e.session (sym (ap session_of is) ∙ own) (f e.cause) ∙ said
 
 any_true : (f : Cause → Bool) (s : ℕ) (ls : List LinkRecord) (l : LinkRecord) (e : Ended) → Has l ls → l.state ≡ Over e → session_of l.state ≡ Some s → f e.cause ≡ true → any_ended f s ls ≡ true
-any_true f s [] l e (k, q) is own yes = absurd (cc)
-any_true f s (x ∷ ls) l e (zero, q) is own yes =
+any_true f s [] l e (k, q) is own said = absurd (cc)
+any_true f s (x ∷ ls) l e (zero, q) is own said =
     (let i : x ≡ l = cc in
-    ap (λ (b : Bool). if b then true else any_ended f s ls) (ended_true f s x.state e (ap (λ (k : LinkRecord). k.state) i ∙ is) (ap (λ (k : LinkRecord). session_of k.state) i ∙ own) yes))
-any_true f s (x ∷ ls) l e (suc k, q) is own yes = by (ended_by f s x.state) (any_true f s ls l e (k, q) is own yes)
+    ap (λ (b : Bool). if b then true else any_ended f s ls) (ended_true f s x.state e (ap (λ (k : LinkRecord). k.state) i ∙ is) (ap (λ (k : LinkRecord). session_of k.state) i ∙ own) said))
+any_true f s (x ∷ ls) l e (suc k, q) is own said = by (ended_by f s x.state) (any_true f s ls l e (k, q) is own said)
   where
     by : (b : Bool) → any_ended f s ls ≡ true → (if b then true else any_ended f s ls) ≡ true
     by true h = refl
