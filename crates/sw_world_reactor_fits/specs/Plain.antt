@@ -1,5 +1,6 @@
 -- The reactor over plain ports and links in memory: what its links tell, and how its code stands for the world's reactor.
-use Rattle.std.specs.Prelude.{◌≡◌, ℕ, Bool, nat_lt, List, [], ◌∷◌}
+use Rattle.std.specs.Prelude.{◌≡◌, ℕ, Bool, true, nat_lt, List, [], ◌∷◌, Some}
+use Rattle.sw_lists.specs.Lists.{Has}
 use Rattle.sw_data.specs.declared.ended.Ended.{Ended}
 use Rattle.sw_data.specs.declared.messages.Ask.{Ask as CodeAsk}
 use Rattle.sw_data.specs.declared.messages.Ask.TheVariants as asks
@@ -15,7 +16,12 @@ use Rattle.sw_port_book.specs.Plain.{Words, word_of, with_word, free}
 use Rattle.sw_step.specs.declared.actor.ActorId.{ActorId}
 use Rattle.sw_step.specs.declared.actor.ActorId.TheVariants.{Reactor as AReactor, Worker, Tasker}
 use Rattle.sw_record.specs.declared.record.LinkRecord.{LinkRecord}
+use Rattle.sw_record.specs.declared.record.LinkState.TheVariants.{Live, Over}
+use Rattle.sw_record.specs.Words.{PeerEnd}
 use Rattle.sw_record.specs.Terms.{Terms}
+use Rattle.sw_conn.specs.declared.conn.Conn.{Conn}
+use Rattle.sw_conn.specs.Conn.{account}
+use Rattle.sw_conn_fits.specs.Shown.{settings}
 use Rattle.sw_past.specs.Messages.{message_of}
 use Rattle.sw_world_laws.specs.Turns.{Ask, AskTake, AskPush, AskNothing, AskRest, AskFinished, Got, GotStart, GotTook, GotEmpty, GotPushed, GotFull, GotNothing}
 use Rattle.sw_reactor_table.specs.Reactor.{Reactor as Table}
@@ -76,3 +82,26 @@ AreEnds (x ∷ xs) (k ∷ ks) = IsEndOf memory_tells x k × AreEnds xs ks
 pub record ReactorIs (t : Terms) (r : Reactor MemoryLink ℕ) (kept : List (MemoryLink × Ended)) (s : Table) : Type 0 where
   pub fits : Fits memory_tells t r s
   pub ends : AreEnds kept s.over
+
+-- the link of a connection, in the record
+abbrev pub live_of : Terms → Conn MemoryLink ℕ → LinkRecord
+live_of t c = record { ip = c.ip; state = Live (account (settings t) c c.uid PeerEnd); pieces = c.link.pieces; written = c.link.written }
+
+-- and one that ended
+abbrev pub over_of : MemoryLink × Ended → LinkRecord
+over_of x = record { ip = (x.1).ip; state = Over x.1; pieces = (x.0).pieces; written = (x.0).written }
+
+-- two links tell the same
+pub record TellsSame (l m : MemoryLink) : Type 0 where
+  pub pieces : m.pieces ≡ l.pieces
+  pub written : m.written ≡ l.written
+  pub at_end : m.at_end ≡ l.at_end
+  pub faults : faults_of m ≡ faults_of l
+
+-- the link of a session has told this, where it ended
+pub record EndTold (xs : List (MemoryLink × Ended)) (n : ℕ) (tells : MemoryLink → Bool) : Type 0 where
+  pub link : MemoryLink
+  pub ended : Ended
+  pub there : Has (link, ended) xs
+  pub session : ended.session ≡ Some n
+  pub told : tells link ≡ true
