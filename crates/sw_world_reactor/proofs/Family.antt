@@ -25,7 +25,7 @@ reactor_there t (Reactor n) e = (n, (below n t.reactor_num e, refl))
 reactor_there t (Worker n) e = absurd (cc)
 reactor_there t (Tasker n) e = absurd (cc)
 
-reactor_may : (t : Terms) (y : ActorId) (s : Table) (got : Got) (feed : Feed) (dids : List Did) (u : Table) (ask : Ask) → RTurn t y s got feed dids u ask → Each (MayDo t y) dids
+pub reactor_may : (t : Terms) (y : ActorId) (s : Table) (got : Got) (feed : Feed) (dids : List Did) (u : Table) (ask : Ask) → RTurn t y s got feed dids u ask → Each (MayDo t y) dids
 reactor_may t y s got feed dids u ask (i, h) =
     subst (λ (z : ActorId). Each (MayDo t z) dids) (sym i.1.1) (turn_may t h.answers (table_got got) s.last (settled t h.starved (table_got got) s) dids h.calls i.0 i.1.0)
 

@@ -115,10 +115,10 @@ then_ran t s got dids u ask d h b =
     only took pushed _ _ _ (NoCall e) k = k
 
     came : (g : Got) → GotFirst g s → (later more : Mail) → Called s b.took b.pushed later more (table_got g) → LinksFirst later
-    came (GotTook m) f _ _ (TookOne e from m) = links_append b.took from m b.ran.first (λ some. link_first m s f (subst (λ (k : ℕ). ¬ (k ≡ 0)) (sym b.ran.counts.ends) (λ z. some (no_items (collect no_more (bare b.took)) z))))
+    came (GotTook m) f _ _ (TookOne e from k) = links_append b.took from k b.ran.first (λ some. link_first k s f (subst (λ (k : ℕ). ¬ (k ≡ 0)) (sym b.ran.counts.ends) (λ z. some (no_items (collect no_more (bare b.took)) z))))
     came GotEmpty f _ _ (FoundNone e) = b.ran.first
     came GotPushed f _ _ (PushedOne w m e) = b.ran.first
-    came (GotFull m) f _ _ (CameBack w m e) = b.ran.first
+    came (GotFull m) f _ _ (CameBack w k e) = b.ran.first
     came GotNothing f _ _ (NoCall e) = b.ran.first
 
     join : (b1 : Bool) → (x y : Bool) → (if b1 then true else x) ≡ true → (b1 ≡ true) ⊎ (x ≡ true)
