@@ -29,8 +29,8 @@ pub fn a_start_is_the_worlds()
 {}
 
 /// A turn of its code over plain ports is a turn of the world's reactor, whose calls have the ports' answers.
-pub fn a_turn_is_the_worlds()
-    ensures { (E : Type 0) (puts : E → MemoryLink → Ended → Bool → E → Type 0)
+pub fn a_turn_is_the_worlds<E>()
+    ensures { (puts : E → MemoryLink → Ended → Bool → E → Type 0)
         (kept_of : E → List (MemoryLink × Ended)) (t : Terms) (shape : Shape) (n : ℕ) (p : Ports) (s : Table) (d : Diary)
         (r q : Reactor MemoryLink ℕ) (got : Got (Msg MemoryLink ℕ)) (a : Asks MemoryLink ℕ) (b b2 : Words)
         (o o2 : PlainWords) (e f : E) → Before puts kept_of t n p s d r got b o e →
