@@ -115,6 +115,7 @@ then_ran t s got dids u ask d h b =
     only took pushed _ _ _ (NoCall e) k = k
 
     came : (g : Got) → GotFirst g s → (later more : Mail) → Called s b.took b.pushed later more (table_got g) → LinksFirst later
+    came GotStart f later more x = elim x [ ]
     came (GotTook m) f _ _ (TookOne e from k) = links_append b.took from k b.ran.first (λ some. link_first k s f (subst (λ (k : ℕ). ¬ (k ≡ 0)) (sym b.ran.counts.ends) (λ z. some (no_items (collect no_more (bare b.took)) z))))
     came GotEmpty f _ _ (FoundNone e) = b.ran.first
     came GotPushed f _ _ (PushedOne w m e) = b.ran.first
@@ -138,10 +139,10 @@ then_ran t s got dids u ask d h b =
             (both word old.run g f.answers f.faithful (packets_counted g s.last ++ (h.calls).0) old.frees old.ends old.packets old.stops b.call m)))
       where
         both : (word : ℕ → ℕ) (run : Runs t word b.took b.pushed s) (g : TableGot Message) (a : Answers) (faithful : _) (ds : List Did) → collect free_in d.dids ≡ freed_in run → length (collect (add_in EndedCount) d.dids) ≤ length (collect free_in d.dids) → length (collect (add_in PacketsCount) d.dids) ≡ length (counted_in run) → (stop_read run ≡ true → ¬ (collect saw_stop_in d.dids ≡ [])) → (call : Called s b.took b.pushed d.took d.pushed g) → Turned (at_served (frees t a (settled t h.starved g s).round) s.last (settled t h.starved g s).next) (stop_at s.last a.stop) (length (counts_in g s.last)) ds → RunWith t word d.took d.pushed (turn t h.starved a g s) (d.dids ++ ds)
-        both word run g a faithful ds of oe op os call m =
+        both word run g a faithful ds fs oe op os call m =
             record {
               run = Then run d.took d.pushed g call h.starved a faithful;
-              frees = collect-append free_in d.dids ds ∙ ap (λ (zs : List (ℕ × ℕ)). zs ++ collect free_in ds) of ∙ ap (λ (zs : List (ℕ × ℕ)). freed_in run ++ zs) m.frees;
+              frees = collect-append free_in d.dids ds ∙ ap (λ (zs : List (ℕ × ℕ)). zs ++ collect free_in ds) fs ∙ ap (λ (zs : List (ℕ × ℕ)). freed_in run ++ zs) m.frees;
               ends = (let x : length (collect (add_in EndedCount) (d.dids ++ ds)) ≡ length (collect (add_in EndedCount) d.dids) + length (collect (add_in EndedCount) ds) = ap length (collect-append (add_in EndedCount) d.dids ds) ∙ length_append (collect (add_in EndedCount) d.dids) (collect (add_in EndedCount) ds) in
                   let y : length (collect free_in (d.dids ++ ds)) ≡ length (collect free_in d.dids) + length (collect free_in ds) = ap length (collect-append free_in d.dids ds) ∙ length_append (collect free_in d.dids) (collect free_in ds) in
                   let v : length (collect (add_in EndedCount) ds) ≤ length (collect free_in ds) = m.ends in omega arith);
