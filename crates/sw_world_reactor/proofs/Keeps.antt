@@ -18,7 +18,7 @@ use Rattle.sw_world_laws.specs.Turns.{Ask, AskTake, AskPush, AskNothing, AskRest
 use Rattle.sw_world_laws.specs.Actors.{Feed}
 use Rattle.sw_reactor_table.specs.Conn.{Conn, Answers}
 use Rattle.sw_reactor_table.specs.Reactor.{Reactor as Table, Ask as TableAsk, Take, Push, Nothing, Rest, Finished, settled, chosen, turn, started}
-use Rattle.sw_reactor_table.specs.Runs.{Called, TookOne, FoundNone, PushedOne, CameBack, NoCall, Runs, First, Then}
+use Rattle.sw_reactor_table.specs.Runs.{Called, TookOne, FoundNone, PushedOne, CameBack, NoCall, Runs, First, Then, IsFaithful}
 use Rattle.sw_reactor_laws.specs.Ending.{Counts, Chose, LinksFirst}
 use Rattle.sw_reactor_laws.specs.Histories.{counts_in, counted_in, frees, at_served, freed_in}
 use Rattle.sw_reactor_laws.specs.Stopped.{stop_at, stop_read}
@@ -138,7 +138,7 @@ then_ran t s got dids u ask d h b =
           (subst (λ (ds : List Did). RunWith t word d.took d.pushed (turn t h.starved f.answers g s) (d.dids ++ ds)) (sym (h.calls).1.0)
             (both word old.run g f.answers f.faithful (packets_counted g s.last ++ (h.calls).0) old.frees old.ends old.packets old.stops b.call m)))
       where
-        both : (word : ℕ → ℕ) (run : Runs t word b.took b.pushed s) (g : TableGot Message) (a : Answers) (faithful : _) (ds : List Did) → collect free_in d.dids ≡ freed_in run → length (collect (add_in EndedCount) d.dids) ≤ length (collect free_in d.dids) → length (collect (add_in PacketsCount) d.dids) ≡ length (counted_in run) → (stop_read run ≡ true → ¬ (collect saw_stop_in d.dids ≡ [])) → (call : Called s b.took b.pushed d.took d.pushed g) → Turned (at_served (frees t a (settled t h.starved g s).round) s.last (settled t h.starved g s).next) (stop_at s.last a.stop) (length (counts_in g s.last)) ds → RunWith t word d.took d.pushed (turn t h.starved a g s) (d.dids ++ ds)
+        both : (word : ℕ → ℕ) (run : Runs t word b.took b.pushed s) (g : TableGot Message) (a : Answers) (faithful : IsFaithful t word a (settled t h.starved g s)) (ds : List Did) → collect free_in d.dids ≡ freed_in run → length (collect (add_in EndedCount) d.dids) ≤ length (collect free_in d.dids) → length (collect (add_in PacketsCount) d.dids) ≡ length (counted_in run) → (stop_read run ≡ true → ¬ (collect saw_stop_in d.dids ≡ [])) → (call : Called s b.took b.pushed d.took d.pushed g) → Turned (at_served (frees t a (settled t h.starved g s).round) s.last (settled t h.starved g s).next) (stop_at s.last a.stop) (length (counts_in g s.last)) ds → RunWith t word d.took d.pushed (turn t h.starved a g s) (d.dids ++ ds)
         both word run g a faithful ds fs oe op os call m =
             record {
               run = Then run d.took d.pushed g call h.starved a faithful;
