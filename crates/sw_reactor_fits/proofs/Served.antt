@@ -51,7 +51,7 @@ use Rattle.sw_reactor.specs.Serving as serving
 use Rattle.sw_reactor_fits.specs.Fits.{IsRow, AreRows, Same, Fits, Sizes, Bounds}
 use Rattle.sw_world_ports.specs.Calls.{Seen, Did, Looks, Idles, Frees, Adds}
 use Rattle.sw_record.specs.Words.{EndedCount}
-use Rattle.sw_reactor_fits.specs.Told.{Telling, TellsOf, IsEndOf, DoTell}
+use Rattle.sw_reactor_fits.specs.Told.{Telling, IsCauseTold, TellsOf, IsEndOf, DoTell}
 use Rattle.sw_world_reactor.specs.Calls.{uid_seen, NoCalls, AimCalls, PushCalls, DoesCalls, ServeCalls}
 use Rattle.sw_reactor_fits.specs.Ports.{seen_of, DidsGo, EndsGo, AreSound}
 use Rattle.sw_reactor_fits.proofs.Telling.{Keyed, own_then, flush_tells, flush_keyed, Chose, chose, chose_tells, again_held, tell_held, tidied_held, read_tells}
@@ -125,7 +125,7 @@ seen_uid (looking.Other n) = refl
 
 -- an idle worker that is found is one of the crew
 idle_below : {C : Type 0} (goes : C → List BoardStep → C → Type 0) (z : Crews) (w from : ℕ) (o u : C) (j : ℕ) → members Workers z ≡ w → FindsIdle goes z Workers from o (Some j) u → j < w
-idle_below goes z w from o u j e (n, (lt, is, went)) =
+idle_below goes z w from o u j e (n, lt, is, went) =
     (let some : 0 < members Workers z = omega (arith, lt) in
     subst (λ (k : ℕ). j < k) e (subst (λ (k : ℕ). k < members Workers z) (sym is) (mod-lt (from + n) some)))
 
@@ -369,7 +369,7 @@ left_served {L} {K} {B} {C} view p t word r q a s d es before behind m z ps ws n
       dids = Frees d.session uid ∷ Adds EndedCount ∷ [];
       calls = calls_by t ans s d v (Frees d.session uid ∷ Adds EndedCount ∷ []) (table.tidied ans d).held (is ans refl refl) refl (refl, refl);
       went = (b1, (c0, ((c.ticket, (sym (tell.number c.ticket) ∙ subst (λ (k : Conn L K). view.number k.ticket ≡ k.session) (sym it) row.2.1 ∙ ap (λ (k : Conn L K). k.session) it ∙ same, frees, refl)), (b1, (c1, ((ended kept put counts, refl), (refl, refl)))))));
-      ends = inr ((z.link, conn.account (settings t) z uid e), (over_link t x uid e, (over, (refl, refl, (row.2.0.0, row.2.0.1, subst (λ (o : Option Cause). TellsOf view z.link ps ws o) caused (row.2.0).2)), kept_true kept put)));
+      ends = inr ((z.link, conn.account (settings t) z uid e), (over_link t x uid e, (over, (refl, refl, (row.2.0.0, row.2.0.1, subst (λ (o : Option Cause). IsCauseTold view z.link o) caused row.2.0.2)), kept_true kept put)));
     })
   where
     ended : (k : Bool) → p.puts f0 z.link (conn.account (settings t) z uid e) k f1 → leave.Counts p.goes k c0 c1 → p.goes c0 (board.Added EndedCount ∷ []) c1

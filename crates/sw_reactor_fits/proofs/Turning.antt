@@ -164,7 +164,7 @@ counts_go p t given (Push w (OverMsg id)) r was gots.Pushed b0 c0 c2 z = absurd 
 
 sound_then : {L K B C E : Type 0} (t : Terms) (p : Ports L K B C E) (b : Bool) (c0 c2 : C) (f0 : E) → CountsPacket p.goes b c0 c2 → AreSound t p c0 f0 → AreSound t p c2 f0
 sound_then t p true c0 c2 f0 z s = record { workers = ap (λ (k : Crews). members Workers k) (s.sizes c0 c2 _ z) ∙ s.workers; sizes = s.sizes; keeps = s.keeps }
-sound_then t p false c0 c2 f0 z s = subst (λ (k : _). AreSound t p k f0) (sym z) s
+sound_then {L} {K} {B} {C} t p false c0 c2 f0 z s = subst (λ (k : C). AreSound t p k f0) (sym z) s
 
 -- one after the other
 dids_append : {L K B C E : Type 0} (p : Ports L K B C E) (xs ys : List Did) (b0 b1 b2 : B) (c0 c1 c2 : C) → DidsGo p xs b0 c0 b1 c1 → DidsGo p ys b1 c1 b2 c2 → DidsGo p (xs ++ ys) b0 c0 b2 c2

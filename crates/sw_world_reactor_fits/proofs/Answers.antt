@@ -5,7 +5,8 @@ use Rattle.sw_data.specs.declared.ended.Ended.{Ended}
 use Rattle.sw_lists.specs.Lists.{collect, Each}
 use Rattle.sw_lists.proofs.Lists.{append_none}
 use Rattle.sw_link.specs.declared.memory_link.MemoryLink.{MemoryLink}
-use Rattle.sw_port_board.specs.Board.{FindsIdle}
+use Rattle.sw_port_board.specs.Board.{FindsIdle, found_busy}
+use Rattle.sw_port_board.specs.declared.board.BoardStep.TheVariants.{Found, SawStop, Added}
 use Rattle.sw_port_board.specs.PlainBoard.{PlainWords, PlainGoes}
 use Rattle.sw_port_board.specs.declared.crew.Crew.TheVariants.{Workers}
 use Rattle.sw_port_book.specs.Plain.{Words, word_in, word_of, with_word, free}
@@ -21,7 +22,7 @@ use Rattle.sw_record.specs.Terms.{Terms}
 use Rattle.sw_record.specs.Places.{Ran}
 use Rattle.sw_world_ports.specs.Calls.{Seen, Did, Accepts, NoLink, NetOver, Looks, Binds, Frees, Marks, Idles, Stops, SeesStop, Adds, Sums, Tables, TableRefuses}
 use Rattle.sw_world_ports.specs.Made.{free_in, first_of, firsts, same_counter}
-use Rattle.sw_world_ports.specs.Ports.{Ports, set, Answers, AllAnswer, ported, all_ported}
+use Rattle.sw_world_ports.specs.Ports.{Ports, set, added, Answers, AllAnswer, ported, all_ported}
 use Rattle.sw_world_fits.specs.Book.{BookStands}
 use Rattle.sw_world_fits.specs.Book as book
 use Rattle.sw_world_fits.specs.Board.{number_of, BoardStands}
@@ -111,18 +112,18 @@ dids_answer puts t legal n lt some (Idles false k x ∷ ds) p b b2 o o2 sb so tu
       (dids_answer puts t legal n lt some ds p b1 b2 o1 o2 (subst (λ (w : Words). BookStands t w p) (sym b_is) sb) f.1 (e ∙ turn) few named.1 there one rest))
   where
     found_turn : (k : ℕ) (x : Option ℕ) (b d : PlainWords) → FindsIdle PlainGoes b.sizes Workers k b x d → d.turn ≡ b.turn
-    found_turn k None b d z = goes_turn _ b d z
-    found_turn k (Some j) b d (m, (less, same, z)) = goes_turn _ b d z
+    found_turn k None b d z = goes_turn (found_busy 0 b.sizes.workers k b.sizes.workers) b d z
+    found_turn k (Some j) b d (m, less, same, z) = goes_turn (found_busy 0 b.sizes.workers k m ++ Found (0 + j) true ∷ []) b d z
 dids_answer puts t legal n lt some (Idles true k x ∷ ds) p b b2 o o2 sb so turn few named there one (b1, (o1, (z, rest))) = absurd z
 dids_answer puts t legal n lt some (SeesStop v ∷ ds) p b b2 o o2 sb so turn few named there one (b1, (o1, ((goes, b_is), rest))) =
     (let f = stopped_fits t legal o o1 p (Reactor n) v so goes in
-    let e : o1.turn ≡ o.turn = goes_turn _ o o1 goes in
+    let e : o1.turn ≡ o.turn = goes_turn (SawStop v ∷ []) o o1 goes in
     first_answered t legal p n (SeesStop v) ds b2 o o1 o2 f.0 e
       (dids_answer puts t legal n lt some ds p b1 b2 o1 o2 (subst (λ (w : Words). BookStands t w p) (sym b_is) sb) f.1 (e ∙ turn) few named.1 there one rest))
 dids_answer puts t legal n lt some (Adds c ∷ ds) p b b2 o o2 sb so turn few named there one (b1, (o1, ((goes, b_is), rest))) =
-    (let e : o1.turn ≡ o.turn = goes_turn _ o o1 goes in
+    (let e : o1.turn ≡ o.turn = goes_turn (Added c ∷ []) o o1 goes in
     first_answered t legal p n (Adds c) ds b2 o o1 o2 tt e
-      (dids_answer puts t legal n lt some ds (ported t p (Reactor n) (Adds c)) b1 b2 o1 o2 (subst (λ (w : Words). BookStands t w (ported t p (Reactor n) (Adds c))) (sym b_is) (book_counts t b p _ sb)) (add_fits t o o1 p (Reactor n) c so lt turn few goes) (e ∙ turn) (added_few p (Reactor n) c few) named.1 there one rest))
+      (dids_answer puts t legal n lt some ds (ported t p (Reactor n) (Adds c)) b1 b2 o1 o2 (subst (λ (w : Words). BookStands t w (ported t p (Reactor n) (Adds c))) (sym b_is) (book_counts t b p (added p.counts (Reactor n) c) sb)) (add_fits t o o1 p (Reactor n) c so lt turn few goes) (e ∙ turn) (added_few p (Reactor n) c few) named.1 there one rest))
 dids_answer puts t legal n lt some (Accepts ip c ∷ ds) p b b2 o o2 sb so turn few named there one (b1, (o1, (z, rest))) = absurd z
 dids_answer puts t legal n lt some (NoLink ∷ ds) p b b2 o o2 sb so turn few named there one (b1, (o1, (z, rest))) = absurd z
 dids_answer puts t legal n lt some (NetOver ∷ ds) p b b2 o o2 sb so turn few named there one (b1, (o1, (z, rest))) = absurd z

@@ -27,7 +27,8 @@ use Rattle.sw_reactor_table.proofs.Grows.{fit_grows}
 use Rattle.sw_reactor_table.proofs.Final.{mode_laws}
 use Rattle.sw_reactor_table.proofs.Law.{runs_quiet, call_quiet, call_fair}
 use Rattle.sw_reactor_table.proofs.Everywhere.{settled_over}
-use Rattle.sw_reactor_laws.specs.Histories.{frees, leaves_with, at_first, at_served}
+use Rattle.sw_reactor_laws.specs.Histories.{counts_in, frees, leaves_with, at_first, at_served}
+use Rattle.sw_reactor_laws.specs.Stopped.{stop_at}
 use Rattle.sw_reactor_laws.proofs.Histories.{Listed, runs_listed, freed_is, firsts_freed}
 use Rattle.sw_world_reactor.specs.Calls.{NoCalls, LookCalls, IdleCalls, AimCalls, DoesCalls, NextCalls, ChoiceCalls, TurnCalls, counts_packet, packets_counted}
 use Rattle.sw_world_reactor.specs.Reactors.{AllTold, RunWith, Behind}
@@ -160,7 +161,7 @@ counts_named t (x ∷ xs) = (tt, counts_named t xs)
 
 pub turn_named : (t : Terms) (words : ℕ → ℕ × ℕ) (a : Answers) (got : TableGot Message) (ask : Ask) (s : Table) (ds : List Did) → 0 < t.worker_num → Served t words s → TurnCalls t a got ask s ds → Each (IsNamed t) ds
 turn_named t words a got ask s ds some v (rest, (e, c)) =
-    subst (Each (IsNamed t)) (sym e) (each_append (IsNamed t) (packets_counted got ask) rest (counts_named t _) (choice_named t words a ask s rest some v c))
+    subst (Each (IsNamed t)) (sym e) (each_append (IsNamed t) (packets_counted got ask) rest (counts_named t (counts_in got ask)) (choice_named t words a ask s rest some v c))
 
 -- and it releases that one alone
 leaves_one : (q : ℕ → Type 0) (s u : ℕ) (o : Does) → q s → Each q (firsts (leaves_with s u o)) × (length (leaves_with s u o) ≤ 1)
@@ -182,7 +183,7 @@ served_one t words a Finished s v = (tt, omega arith)
 
 pub turn_frees : (t : Terms) (words : ℕ → ℕ × ℕ) (a : Answers) (got : TableGot Message) (ask : Ask) (s : Table) (ds : List Did) → Served t words s → TurnCalls t a got ask s ds → Each (λ k. (words (k % t.max_conn)).0 ≡ k) (firsts (collect free_in ds)) × (length (collect free_in ds) ≤ 1)
 turn_frees t words a got ask s ds v (rest, (e, c)) =
-    (let m = turn_made _ _ _ rest (choice_chose t a ask s rest c) in
+    (let m = turn_made (at_served (frees t a s.round) ask s.next) (stop_at ask a.stop) (counts_in got ask) rest (choice_chose t a ask s rest c) in
     let q = served_one t words a ask s v in
     let z : collect free_in ds ≡ at_served (frees t a s.round) ask s.next = ap (collect free_in) e ∙ m.frees in
     (subst (λ (ps : List (ℕ × ℕ)). Each (λ k. (words (k % t.max_conn)).0 ≡ k) (firsts ps)) (sym z) q.0, subst (λ (ps : List (ℕ × ℕ)). length ps ≤ 1) (sym z) q.1))
