@@ -6,6 +6,7 @@ use Rattle.sw_port_board.specs.declared.crew.Sizes.{Sizes as Crews}
 use Rattle.sw_port_board.specs.declared.board.BoardStep.TheVariants as board
 use Rattle.std.specs.Bool.{MatchBool}
 use Rattle.sw_data.specs.declared.ended.Cause.{Cause}
+use Rattle.sw_data.specs.declared.ended.Ended.{Ended}
 use Rattle.sw_data.specs.declared.messages.Ask.TheVariants as ask
 use Rattle.sw_data.specs.Targets.{round_target}
 use Rattle.sw_link.specs.declared.link.LinkRead.{LinkRead}
