@@ -1,9 +1,8 @@
 //! The reactor's code stands for the reactor of the world. The functions do nothing: their clauses are the theorems.
-ghost use Rattle.std.specs.Prelude.{◌≡◌, ℕ, ◌<◌, Bool, true, List, [], ◌++◌, map, Some};
+ghost use Rattle.std.specs.Prelude.{◌≡◌, ℕ, ◌<◌, true, List, [], ◌++◌, map, Some};
 ghost use Rattle.sw_data.specs.declared.ended.Ended.{Ended};
 ghost use Rattle.sw_data.specs.declared.messages.Got.{Got};
 ghost use Rattle.sw_data.specs.declared.messages.Msg.{Msg};
-ghost use Rattle.sw_link.specs.declared.memory_link.MemoryLink.{MemoryLink};
 ghost use Rattle.sw_port_board.specs.PlainBoard.{PlainWords};
 ghost use Rattle.sw_port_book.specs.Plain.{Words};
 ghost use Rattle.sw_record.specs.Terms.{Terms};
@@ -22,6 +21,8 @@ ghost use Rattle.sw_world_reactor.specs.Reactors.{told_by};
 ghost use Rattle.sw_world_reactor_fits.specs.Plain.{memory_tells, plain_ports, ReactorIs, live_of, over_of, TellsSame, EndTold};
 ghost use Rattle.sw_world_reactor_fits.specs.Turns.{Before, TurnIs};
 
+use sw_link::{Ends, MemoryLink};
+
 /// A reactor before its first turn is the world's.
 pub fn a_start_is_the_worlds()
     ensures { (t : Terms) (read_size : ℕ) (r : Reactor MemoryLink ℕ) → 0 < t.worker_num →
@@ -29,12 +30,11 @@ pub fn a_start_is_the_worlds()
 {}
 
 /// A turn of its code over plain ports is a turn of the world's reactor, whose calls have the ports' answers.
-pub fn a_turn_is_the_worlds<E>()
-    ensures { (puts : E → MemoryLink → Ended → Bool → E → Type 0)
-        (kept_of : E → List (MemoryLink × Ended)) (t : Terms) (shape : Shape) (n : ℕ) (p : Ports) (s : Table) (d : Diary)
+pub fn a_turn_is_the_worlds<E: Ends<MemoryLink>>()
+    ensures { (kept_of : E → List (MemoryLink × Ended)) (t : Terms) (shape : Shape) (n : ℕ) (p : Ports) (s : Table) (d : Diary)
         (r q : Reactor MemoryLink ℕ) (got : Got (Msg MemoryLink ℕ)) (a : Asks MemoryLink ℕ) (b b2 : Words)
-        (o o2 : PlainWords) (e f : E) → Before puts kept_of t n p s d r got b o e →
-        Turns (plain_ports puts) r got b o e a q b2 o2 f →
+        (o o2 : PlainWords) (e f : E) → Before E.put_gives kept_of t n p s d r got b o e →
+        Turns (plain_ports E.put_gives) r got b o e a q b2 o2 f →
         TurnIs kept_of t (LegalFor shape) n p s got q a b2 o o2 f }
 {}
 
