@@ -3,6 +3,7 @@ ghost use Rattle.std.specs.Prelude.{◌≡◌, ℕ, ◌<◌, true, List, [], ◌
 ghost use Rattle.sw_data.specs.declared.ended.Ended.{Ended};
 ghost use Rattle.sw_data.specs.declared.messages.Got.{Got};
 ghost use Rattle.sw_data.specs.declared.messages.Msg.{Msg};
+ghost use Rattle.sw_link.specs.declared.memory_link.MemoryLink.{MemoryLink};
 ghost use Rattle.sw_port_board.specs.PlainBoard.{PlainWords};
 ghost use Rattle.sw_port_book.specs.Plain.{Words};
 ghost use Rattle.sw_record.specs.Terms.{Terms};
