@@ -27,7 +27,7 @@ pub silent : (t : Terms) (y : ActorId) → Shows t y [] [] (λ n. untold) no_dia
 silent t y =
     record {
       door = λ e. record { routed = tt; fresh = ([], refl); stops = λ n. absurd (n refl); accepted = (omega arith); refused = (omega arith) };
-      reactor = λ n lt e. (
+      reactor = λ n lt e word. (
         record {
           to_workers = tt;
           shows = λ fair. record { routed = tt; stranger = λ s f. refl; keeps = λ s l has i. absurd (let q = has.1 in cc) };

@@ -78,8 +78,8 @@ pub zero_fits : (t : Terms) (legal : List Ran → Type 0) (y : ActorId) (b : Wor
 zero_fits t legal y b p st s n = ((n, refl), record { slots = st.slots; last = st.last })
 
 -- a release
-pub release_fits : (t : Terms) (legal : List Ran → Type 0) (y : ActorId) (b : Words) (p : Ports) → BookStands t b p → 1 ≤ t.max_conn → (s : ℕ) → ¬ (s ≡ 0) → Answers t legal p y (Frees s (word_of b s).uid) × BookStands t (with_word b s free) (ported t p y (Frees s (word_of b s).uid))
-release_fits t legal y b p st some s n = ((n, ap (λ (w : ℕ × ℕ). w.1) (here t b p.words st.slots some s)), record { slots = set_stands t b p.words st.slots some s free; last = st.last })
+pub release_fits : (t : Terms) (legal : List Ran → Type 0) (y : ActorId) (b : Words) (p : Ports) → BookStands t b p → 1 ≤ t.max_conn → (s : ℕ) → ¬ (s ≡ 0) → (word_of b s).number ≡ s → Answers t legal p y (Frees s (word_of b s).uid) × BookStands t (with_word b s free) (ported t p y (Frees s (word_of b s).uid))
+release_fits t legal y b p st some s n own = ((n, here t b p.words st.slots some s ∙ ap (λ (k : ℕ). (k, (word_of b s).uid)) own), record { slots = set_stands t b p.words st.slots some s free; last = st.last })
 
 -- a claim, try by try
 abbrev Tries : Terms → (ℕ → ℕ × ℕ) → Claim × ℕ → Claimed → Type 0

@@ -32,10 +32,10 @@ pub fn binds_to_zero_fit()
         Answers t (LegalFor shape) p y (Binds s 0 ZeroUid) × BookStands t b (ported t p y (Binds s 0 ZeroUid)) }
 {}
 
-/// A release answers the uid of the ports' word, and empties it.
+/// A release of a session that stands in its word answers the uid of the ports' word, and empties it.
 pub fn releases_fit()
     ensures { (t : Terms) (shape : Shape) (y : ActorId) (b : Words) (p : Ports) → BookStands t b p →
-        1 ≤ t.max_conn → (s : ℕ) → ¬ (s ≡ 0) →
+        1 ≤ t.max_conn → (s : ℕ) → ¬ (s ≡ 0) → (word_of b s).number ≡ s →
         let d = Frees s (word_of b s).uid in
         Answers t (LegalFor shape) p y d × BookStands t (with_word b s free) (ported t p y d) }
 {}

@@ -9,7 +9,7 @@ use Rattle.sw_record.specs.Words.{Shutdown, Connect, Packet, Closed, Finish, Tas
 use Rattle.sw_record.specs.Terms.{Terms}
 use Rattle.sw_record.specs.Causes.{IsAsked}
 use Rattle.sw_record.specs.Answers.{answers_of}
-use Rattle.sw_record.specs.Uids.{the_uid, bound_in, info_in}
+use Rattle.sw_record.specs.Uids.{bound_in, info_in}
 use Rattle.sw_past.specs.Claims.{Claim, drew_in}
 use Rattle.sw_past.specs.Messages.{Message, FreshMsg, SendMsg, CloseMsg, ResetMsg, Bye, EventMsg, OverMsg, NoMore}
 use Rattle.sw_past.specs.Past.{Mail, bare, of}
@@ -29,7 +29,7 @@ use Rattle.sw_join.specs.Modes.{AimOf, EndOf}
 use Rattle.sw_world_ports.specs.Made.{accept_in, live_in, other_in, pass_in, found_in, had_in, free_in, firsts, seat_in, stop_in, saw_stop_in, spent_in}
 use Rattle.sw_world_ports.specs.Law.{OneBind, IsStopped, all_in}
 use Rattle.sw_world_ports.proofs.Haves.{each_has}
-use Rattle.sw_world_ports.proofs.Uids.{all_binds, uid_found, uid_is, bound_once}
+use Rattle.sw_world_ports.proofs.Uids.{uid_found, uid_is, bound_once}
 use Rattle.sw_world_laws.specs.Shows.{HandShows, fresh_pair, drew_pair}
 use Rattle.sw_world_laws.specs.Done.{DoneShows, ReactorDone, HandDone, WorkerDone, TaskerDone}
 use Rattle.sw_world_laws.specs.Actors.{Actors}
@@ -37,8 +37,8 @@ use Rattle.sw_world_laws.specs.World.{Pending, Core, there}
 use Rattle.sw_world_laws.specs.History.{History, diary_of, past_of, LocalBy}
 use Rattle.sw_world_laws.specs.Law.{Holds}
 use Rattle.sw_world_laws.specs.Runs.{AllDone}
-use Rattle.sw_world_laws.proofs.Locals.{shown, locals, joint, lt_test, test_lt, there_hand, pair_fresh, pair_drew, door_shown}
-use Rattle.sw_world_laws.proofs.Turns.{more_of}
+use Rattle.sw_world_laws.proofs.Locals.{shown, locals, joint, lt_test, test_lt, there_hand, pair_fresh, pair_drew, door_shown, uid_of, words_found}
+use Rattle.sw_world_laws.proofs.Turns.{more_of, fair_took}
 
 hand_of : (t : Terms) (legal : List Ran → Type 0) (p : Actors t) (c : Core p.State) (h : History) → Holds t legal p c h → c.lost ≡ false → (y : ActorId) → IsHand t y → HandShows t y (p.log (c.states y)) (diary_of h y)
 hand_of t legal p c h l ok y k = (shown t legal p c h l ok y (there_hand t y k)).hand k
@@ -172,9 +172,6 @@ cause_laws t legal p c h l ok =
     }
 
 -- uids
-abbrev pub uid_of : Terms → History → ℕ → ℕ
-uid_of t h s = the_uid (all_binds t (all_in pass_in h.dids) s)
-
 pub uid_laws : (t : Terms) (legal : List Ran → Type 0) (p : Actors t) (c : Core p.State) (h : History) → Holds t legal p c h → c.lost ≡ false → UidLaws t (past_of t p c h)
 uid_laws t legal p c h l ok =
     record {
@@ -245,7 +242,7 @@ finished_laws t legal p c h l d =
     at_most x y false e = subst (λ (ms : Mail). length (collect no_more (of x ms)) ≤ 1) (sym (l.absent y e)) (omega arith)
 
     reactor : (n : ℕ) → n < t.reactor_num → ReactorDone t (p.kept (c.states (Reactor n))) (diary_of h (Reactor n))
-    reactor n lt = (done_of t legal p c h l d (Reactor n) (lt_test n t.reactor_num lt)).reactor n lt refl
+    reactor n lt = (done_of t legal p c h l d (Reactor n) (lt_test n t.reactor_num lt)).reactor n lt refl (words_found t legal p c h l n lt) (fair_took t legal p c h l n)
 
     hand : (y : ActorId) → IsHand t y → HandDone y (p.log (c.states y)) (diary_of h y)
     hand y k = (done_of t legal p c h l d y (there_hand t y k)).hand k

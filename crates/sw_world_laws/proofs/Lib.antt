@@ -1,7 +1,9 @@
 pub mod Locals
 pub mod Places
 pub mod Marks
+pub mod Words
 pub mod Turns
+pub mod Standing
 pub mod Moves
 pub mod Reached
 pub mod Joined

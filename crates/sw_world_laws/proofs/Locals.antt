@@ -3,7 +3,7 @@ use Rattle.std.proofs.Common.{◌≡◌, ◌⊎◌, ℕ, ◌<◌, nat_lt, Bool, 
 use Rattle.std.proofs.lemmas.Bool.Decides.{nat_tests}
 use Rattle.sw_lists.specs.Lists.{collect, IsPrefix, Each}
 use Rattle.sw_lists.specs.Numbers.{Rises}
-use Rattle.sw_lists.proofs.Lists.{prefix_collect, prefix_refl, rises_prefix, collect-collect, collect-same, each_more}
+use Rattle.sw_lists.proofs.Lists.{prefix_collect, prefix_refl, rises_prefix, collect-collect, collect-same, each_more, each_at}
 use Rattle.sw_step.specs.declared.actor.ActorId.{ActorId}
 use Rattle.sw_step.specs.declared.actor.ActorId.TheVariants.{Door, Reactor, Worker, Tasker}
 use Rattle.sw_record.specs.Terms.{Terms}
@@ -20,9 +20,12 @@ use Rattle.sw_join.proofs.Told.{ToReactor, all_to_reactor, fresh_sender, rises_s
 use Rattle.sw_join.proofs.Steps.{pipes}
 use Rattle.sw_record.specs.Places.{Ran}
 use Rattle.sw_join.specs.Modes.{AimOf, EndOf}
-use Rattle.sw_world_ports.specs.Made.{accept_in}
+use Rattle.sw_record.specs.Uids.{the_uid}
+use Rattle.sw_world_ports.specs.Made.{accept_in, pass_in, found_in, free_in}
+use Rattle.sw_world_ports.specs.Law.{OneBind, all_in}
+use Rattle.sw_world_ports.proofs.Uids.{all_binds, uid_found, uid_is}
 use Rattle.sw_world_laws.specs.Turns.{Diary}
-use Rattle.sw_world_laws.specs.Shows.{Shows, fresh_pair, drew_pair, LostShows, DoorShows, ReactorMore}
+use Rattle.sw_world_laws.specs.Shows.{Shows, fresh_pair, drew_pair, LostShows, DoorShows, HasWord, ReactorMore}
 use Rattle.sw_world_laws.specs.Actors.{Actors}
 use Rattle.sw_world_laws.specs.World.{Pending, Waits, Gave, Core, there, Lost}
 use Rattle.sw_world_laws.specs.History.{History, diary_of, past_of, LocalBy}
@@ -88,9 +91,25 @@ shown t legal p c h l ok y th = by (c.nexts y) (l.sound ok y) (l.local y th)
 pub door_shown : (t : Terms) (legal : List Ran → Type 0) (p : Actors t) (c : Core p.State) (h : History) → Holds t legal p c h → DoorShows t (diary_of h Door)
 door_shown t legal p c h l = elim (shown_or t legal p c h l Door refl) [ inl q ↦ q.door refl | inr q ↦ absurd (no_hand_door t q.hand) ]
 
+-- the uid of a session, by all binds so far
+abbrev pub uid_of : Terms → History → ℕ → ℕ
+uid_of t h s = the_uid (all_binds t (all_in pass_in h.dids) s)
+
+-- what a reactor found and released agrees with it
+pub found_agree : (t : Terms) (legal : List Ran → Type 0) (p : Actors t) (c : Core p.State) (h : History) → Holds t legal p c h → (n : ℕ) → Each (λ (q : ℕ × ℕ). (q.1 ≡ 0) ⊎ (q.1 ≡ uid_of t h q.0)) (collect found_in (h.dids (Reactor n)))
+found_agree t legal p c h l n =
+    each_more (λ (q : ℕ × ℕ). (q.1 ≡ 0) ⊎ OneBind t (all_in pass_in h.dids) q.0 q.1) (λ (q : ℕ × ℕ). (q.1 ≡ 0) ⊎ (q.1 ≡ uid_of t h q.0)) (collect found_in (h.dids (Reactor n)))
+    (λ q k. elim k [ inl z ↦ inl z | inr z ↦ inr (uid_found t (all_in pass_in h.dids) q.0 q.1 z) ]) (l.ports.words.found (Reactor n)).found
+
+pub freed_agree : (t : Terms) (legal : List Ran → Type 0) (p : Actors t) (c : Core p.State) (h : History) → Holds t legal p c h → (n : ℕ) → n < t.reactor_num → Each (λ (q : ℕ × ℕ). q.1 ≡ uid_of t h q.0) (collect free_in (h.dids (Reactor n)))
+freed_agree t legal p c h l n lt = each_at (λ (q : ℕ × ℕ). q.1 ≡ uid_of t h q.0) (collect free_in (h.dids (Reactor n))) (λ q has. uid_is t (all_in pass_in h.dids) q.0 q.1 (l.ports.words.book.frees n lt q.0 q.1 has))
+
+pub words_found : (t : Terms) (legal : List Ran → Type 0) (p : Actors t) (c : Core p.State) (h : History) → Holds t legal p c h → (n : ℕ) → n < t.reactor_num → HasWord (h.dids (Reactor n))
+words_found t legal p c h l n lt = record { word = uid_of t h; found = found_agree t legal p c h l n; freed = freed_agree t legal p c h l n lt }
+
 pub reactor_shown : (t : Terms) (legal : List Ran → Type 0) (p : Actors t) (c : Core p.State) (h : History) → Holds t legal p c h → (n : ℕ) → n < t.reactor_num →
     ReactorLaw t (AimOf t) (EndOf t) n (h.took (Reactor n)) (h.pushed (Reactor n)) (p.kept (c.states (Reactor n))) × (IsFair t n (h.took (Reactor n)) → ReactorMore t (p.kept (c.states (Reactor n))) (p.told (c.states (Reactor n))) (diary_of h (Reactor n)))
-reactor_shown t legal p c h l n lt = elim (shown_or t legal p c h l (Reactor n) (lt_test n t.reactor_num lt)) [ inl q ↦ q.reactor n lt refl | inr q ↦ absurd (no_hand_reactor t n q.hand) ]
+reactor_shown t legal p c h l n lt = elim (shown_or t legal p c h l (Reactor n) (lt_test n t.reactor_num lt)) [ inl q ↦ q.reactor n lt refl (words_found t legal p c h l n lt) | inr q ↦ absurd (no_hand_reactor t n q.hand) ]
 
 pub hand_law : (t : Terms) (legal : List Ran → Type 0) (p : Actors t) (c : Core p.State) (h : History) → Holds t legal p c h → (y : ActorId) → IsHand t y → HandLaw t y (h.took y) (h.pushed y) (p.log (c.states y))
 hand_law t legal p c h l y k = elim (shown_or t legal p c h l y (there_hand t y k)) [ inl q ↦ (q.hand k).law | inr q ↦ q.law ]

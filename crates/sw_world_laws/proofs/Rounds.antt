@@ -20,7 +20,8 @@ use Rattle.sw_world_laws.specs.World.{Core}
 use Rattle.sw_world_laws.specs.History.{past_of, History}
 use Rattle.sw_world_laws.specs.Runs.{AllDone}
 use Rattle.sw_world_laws.specs.Law.{Holds}
-use Rattle.sw_world_laws.proofs.Locals.{lt_test}
+use Rattle.sw_world_laws.proofs.Locals.{lt_test, words_found}
+use Rattle.sw_world_laws.proofs.Turns.{fair_took}
 use Rattle.sw_world_laws.proofs.Account.{has_collect, account_by}
 use Rattle.sw_world_laws.proofs.Shares.{IsNew, shares_of}
 use Rattle.sw_world_laws.proofs.Joined.{done_of}
@@ -47,7 +48,7 @@ pub round_laws : (t : Terms) (legal : List Ran → Type 0) (p : Actors t) (c : C
 round_laws t legal p c h some l settled d m =
     record {
       shares = λ n lt. (let q = shares_of t legal p c h some l n lt in none_new t n (account_by t p c h).links (p.kept (c.states (Reactor n))) q.0 settled.over q.1.0 q.1.1);
-      round = λ n lt. ((done_of t legal p c h l d (Reactor n) (lt_test n t.reactor_num lt)).round m).round n lt refl;
-      reactor_last = λ n j lt. ((done_of t legal p c h l d (Reactor n) (lt_test n t.reactor_num lt)).round m).last n j lt refl;
+      round = λ n lt. ((done_of t legal p c h l d (Reactor n) (lt_test n t.reactor_num lt)).round m).round n lt refl (words_found t legal p c h l n lt) (fair_took t legal p c h l n);
+      reactor_last = λ n j lt. ((done_of t legal p c h l d (Reactor n) (lt_test n t.reactor_num lt)).round m).last n j lt refl (words_found t legal p c h l n lt);
       worker_all = λ j lt. ((done_of t legal p c h l d (Worker j) (lt_test j t.worker_num lt)).round m).all j lt refl;
     }

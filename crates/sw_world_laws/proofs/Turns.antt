@@ -28,12 +28,13 @@ use Rattle.sw_world_ports.proofs.Frame.{frame}
 use Rattle.sw_world_ports.proofs.Haves.{each_has}
 use Rattle.sw_world_ports.proofs.Calls.{calls_keep}
 use Rattle.sw_world_laws.specs.Turns.{Got, with_dids}
-use Rattle.sw_world_laws.specs.Shows.{ReactorMore, Tells}
+use Rattle.sw_world_laws.specs.Shows.{ReactorMore, Tells, HasWord}
 use Rattle.sw_world_laws.specs.Actors.{Actors, Grows, Feed}
 use Rattle.sw_world_laws.specs.World.{Waits, Core, Outcome, there, handed, turned, IsTurn, Lost, Pending, IsMade, then_next, part_of}
 use Rattle.sw_world_laws.specs.History.{History, diary_of, past_of, LocalBy}
 use Rattle.sw_world_laws.specs.Law.{Holds, Law, IsSound}
 use Rattle.sw_world_laws.proofs.Locals.{locals, joint, fair_sent, reactor_shown, no_hand_reactor, hand_law, shown}
+use Rattle.sw_world_laws.proofs.Words.{words_then}
 use Rattle.sw_world_laws.proofs.Marks.{TellsLater, task_marks_turn, finish_marks_turn}
 use Rattle.sw_world_laws.proofs.Places.{table_grows, seats_above, told_new}
 
@@ -182,7 +183,8 @@ turned_keeps t legal p c h l was y th o got turn q = by o.fails turn.0
         (λ k x e. (let new = (p.shows_after y o.state o.ask (with_dids (diary_of h y) o.dids) after).hand k in
         told_new (p.log (c.states y)) x (h.dids y) o.dids (length c.ports.table) (hand_law t legal p c h l y k).dialogue (subst Dialogue e new.law.dialogue) ((shown t legal p c h l was y th).hand k).logged (subst (λ (v : Log). placed v ≡ collect seat_in (h.dids y ++ o.dids)) e new.logged)
         (seats_above t legal y (length c.ports.table) c.ports o.dids (omega arith) turn.1)))
-        (λ m lt e fair. ((p.shows_after y o.state o.ask (with_dids (diary_of h y) o.dids) after).reactor m lt e).1 fair)
+        (λ m lt e fair. (let word : HasWord (h.dids y ++ o.dids) = subst (λ (z : ActorId). HasWord (h.dids z ++ o.dids)) (sym e) (words_then t legal p c h l m lt o.dids (subst (λ (z : ActorId). Each (MayDo t z) o.dids) e (p.may y (c.states y) got (handed p.has c y) o.dids o.state o.ask made)) (subst (λ (z : ActorId). AllAnswer t legal c.ports z o.dids) e turn.1)) in
+        ((p.shows_after y o.state o.ask (with_dids (diary_of h y) o.dids) after).reactor m lt e word).1 fair))
 
 -- the sessions that came to a reactor were drawn
 pub took_drawn : (t : Terms) (legal : List Ran → Type 0) (p : Actors t) (c : Core p.State) (h : History) → Holds t legal p c h → (n : ℕ) → Each (λ s. Has s (drawn_by h.dids)) (collect fresh_in (bare (h.took (Reactor n))))

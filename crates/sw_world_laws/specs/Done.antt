@@ -14,11 +14,11 @@ use Rattle.sw_record.specs.Logs.{events_of, EndsDone}
 use Rattle.sw_record.specs.Tasks.{posts, tasks_of, made}
 use Rattle.sw_past.specs.Past.{bare, of}
 use Rattle.sw_past.specs.Views.{heard_in, fresh_of, task_id, finish_in, no_more, over_in, packet_msg}
-use Rattle.sw_past.specs.Routes.{IsHand}
+use Rattle.sw_past.specs.Routes.{IsHand, IsFair}
 use Rattle.sw_join.specs.Drained.{LastMarked}
 use Rattle.sw_world_ports.specs.Made.{accept_in}
 use Rattle.sw_world_laws.specs.Turns.{Diary}
-use Rattle.sw_world_laws.specs.Shows.{fresh_pair, drew_pair}
+use Rattle.sw_world_laws.specs.Shows.{fresh_pair, drew_pair, HasWord}
 
 -- the door pushed all that it drew, and told each reactor at last that no more comes
 pub record DoorDone (t : Terms) (d : Diary) : Type 0 where
@@ -52,15 +52,15 @@ pub record TaskerDone (t : Terms) (log : Log) (d : Diary) : Type 0 where
 -- mode 1, a reactor: where none was dropped and none is held, its packets went round the workers, and each was told at last
 -- that no more comes; a worker was told so by all reactors
 pub record RoundShows (t : Terms) (y : ActorId) (kept : List LinkRecord) (d : Diary) : Type 0 where
-  pub round : (n : ℕ) → n < t.reactor_num → y ≡ Reactor n → ((s : ℕ) (l : LinkRecord) → Has l kept → session_of l.state ≡ Some s → (e : Ended) × ((l.state ≡ Over e) × IsAllCut e.cause)) → (j : ℕ) → j < t.worker_num → length (collect packet_msg (of (Worker j) d.pushed)) ≡ rounds t.worker_num (total kept) j
-  pub last : (n j : ℕ) → n < t.reactor_num → y ≡ Reactor n → LastMarked no_more (of (Worker j) d.pushed)
+  pub round : (n : ℕ) → n < t.reactor_num → y ≡ Reactor n → HasWord d.dids → IsFair t n d.took → ((s : ℕ) (l : LinkRecord) → Has l kept → session_of l.state ≡ Some s → (e : Ended) × ((l.state ≡ Over e) × IsAllCut e.cause)) → (j : ℕ) → j < t.worker_num → length (collect packet_msg (of (Worker j) d.pushed)) ≡ rounds t.worker_num (total kept) j
+  pub last : (n j : ℕ) → n < t.reactor_num → y ≡ Reactor n → HasWord d.dids → LastMarked no_more (of (Worker j) d.pushed)
   pub all : (j : ℕ) → j < t.worker_num → y ≡ Worker j → t.reactor_num ≤ length (collect no_more (bare d.took))
 
 -- what the law of a finished actor shows
 pub record DoneShows (t : Terms) (y : ActorId) (log : Log) (kept : List LinkRecord) (d : Diary) : Type 0 where
   pub once : (x : ActorId) → length (collect no_more (of x d.pushed)) ≤ 1
   pub door : y ≡ Door → DoorDone t d
-  pub reactor : (n : ℕ) → n < t.reactor_num → y ≡ Reactor n → ReactorDone t kept d
+  pub reactor : (n : ℕ) → n < t.reactor_num → y ≡ Reactor n → HasWord d.dids → IsFair t n d.took → ReactorDone t kept d
   pub hand : IsHand t y → HandDone y log d
   pub worker : (w : ℕ) → w < t.worker_num → y ≡ Worker w → WorkerDone w log d
   pub tasker : (k : ℕ) → k < t.tasker_num → y ≡ Tasker k → TaskerDone t log d

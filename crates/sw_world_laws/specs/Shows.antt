@@ -67,6 +67,12 @@ pub record Tells : Type 0 where
   pub at_end : Bool
   pub failed : Bool
 
+-- what looks found and releases answered agrees with one uid of each session; before it is bound a look finds none
+pub record HasWord (dids : List Did) : Type 0 where
+  pub word : ℕ → ℕ
+  pub found : Each (λ (p : ℕ × ℕ). (p.1 ≡ 0) ⊎ (p.1 ≡ word p.0)) (collect found_in dids)
+  pub freed : Each (λ (p : ℕ × ℕ). p.1 ≡ word p.0) (collect free_in dids)
+
 -- what a reactor's law shows of what came fairly, beside its ReactorLaw
 pub record ReactorMore (t : Terms) (kept : List LinkRecord) (told : ℕ → Tells) (d : Diary) : Type 0 where
   -- it releases a session as it ends its link
@@ -116,7 +122,7 @@ pub record HandShows (t : Terms) (y : ActorId) (log : Log) (d : Diary) : Type 0 
 -- what the law of each actor shows, at every moment
 pub record Shows (t : Terms) (y : ActorId) (log : Log) (kept : List LinkRecord) (told : ℕ → Tells) (d : Diary) : Type 0 where
   pub door : y ≡ Door → DoorShows t d
-  pub reactor : (n : ℕ) → n < t.reactor_num → y ≡ Reactor n → ReactorLaw t (AimOf t) (EndOf t) n d.took d.pushed kept × (IsFair t n d.took → ReactorMore t kept told d)
+  pub reactor : (n : ℕ) → n < t.reactor_num → y ≡ Reactor n → HasWord d.dids → ReactorLaw t (AimOf t) (EndOf t) n d.took d.pushed kept × (IsFair t n d.took → ReactorMore t kept told d)
   pub hand : IsHand t y → HandShows t y log d
   pub worker : (w : ℕ) → w < t.worker_num → y ≡ Worker w → PostLaw w d.pushed log
   pub tasker : (k : ℕ) → k < t.tasker_num → y ≡ Tasker k → FinishLaw d.pushed log

@@ -154,7 +154,7 @@ call_keeps t legal p dids h y (Frees s u) may ans can =
     let f : ActorId → List (ℕ × ℕ) = all_in free_in dids in
     words_new t (set p.words (s % t.max_conn) (0, 0)) p.last dids y (Frees s u) a (add f y (s, u)) (all_in pass_in dids)
     (ap (λ (g : ActorId → List (ℕ × Claim)). g Door) (collect_same_at accept_in dids y (Frees s u) refl)) (collect_one_at free_in dids y (Frees s u) (s, u) refl) (collect_same_at pass_in dids y (Frees s u) refl)
-    (subst (λ (z : ActorId). BookLaw t (set p.words (s % t.max_conn) (0, 0)) p.last a (add f z (s, u)) (all_in pass_in dids)) (sym may.1.1) (free_keeps t p.words p.last a f (all_in pass_in dids) h.book may.0 s u may.1.0 ans.0 can ans.1))
+    (subst (λ (z : ActorId). BookLaw t (set p.words (s % t.max_conn) (0, 0)) p.last a (add f z (s, u)) (all_in pass_in dids)) (sym may.1.1) (free_keeps t p.words p.last a f (all_in pass_in dids) h.book may.0 s u may.1.0 ans.0 (ap (λ (x : ℕ × ℕ). x.0) ans.1) (ap (λ (x : ℕ × ℕ). x.1) ans.1)))
     (λ r k. k) (λ r v k. k) h.found (nothing t a (all_in pass_in dids) (Frees s u) refl refl refl refl)
 call_keeps t legal p dids h y NoLink may ans can = words_still t p.words p.last dids y NoLink refl refl refl h (nothing t (collect accept_in (dids Door)) (all_in pass_in dids) NoLink refl refl refl refl)
 call_keeps t legal p dids h y NetOver may ans can = words_still t p.words p.last dids y NetOver refl refl refl h (nothing t (collect accept_in (dids Door)) (all_in pass_in dids) NetOver refl refl refl refl)

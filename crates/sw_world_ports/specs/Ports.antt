@@ -86,14 +86,15 @@ RefusesIt t calls c (Busy word seen) = ⊥
 RefusesIt t calls c (PlacesSpent n) = (call_fault t.columns c ≡ None) × ((n ≡ calls) × (calls ≡ t.table_last_call))
 RefusesIt t calls c fault = call_fault t.columns c ≡ Some fault
 
--- whether a call has this answer; the Table's are of a legal history
+-- whether a call has this answer; a session is released while it stands in its word, and the Table's calls are of a legal
+-- history
 abbrev pub Answers : Terms → (List Ran → Type 0) → Ports → ActorId → Did → Type 0
 Answers t legal p y (Accepts ip c) = ((rest : List ℕ) × (p.waiting ≡ ip ∷ rest)) × ((claimed t p).0 ≡ c)
 Answers t legal p y NoLink = (p.waiting ≡ []) × (p.ended ≡ false)
 Answers t legal p y NetOver = (p.waiting ≡ []) × (p.ended ≡ true)
 Answers t legal p y (Looks s x) = (¬ (s ≡ 0)) × SeesIt (p.words (s % t.max_conn)) s x
 Answers t legal p y (Binds s u x) = (¬ (s ≡ 0)) × BindsIt (p.words (s % t.max_conn)) s u x
-Answers t legal p y (Frees s u) = (¬ (s ≡ 0)) × ((p.words (s % t.max_conn)).1 ≡ u)
+Answers t legal p y (Frees s u) = (¬ (s ≡ 0)) × (p.words (s % t.max_conn) ≡ (s, u))
 Answers t legal p y (Marks b) = Unit {0}
 Answers t legal p y (Idles crew k x) = idle_one t p.idle crew k ≡ x
 Answers t legal p y Stops = Unit {0}

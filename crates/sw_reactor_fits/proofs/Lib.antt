@@ -1,0 +1,9 @@
+pub mod Rows
+pub mod Settled
+pub mod Chosen
+pub mod Telling
+pub mod Turns
+pub mod Served
+pub mod Turning
+pub mod Standing
+pub mod Running
