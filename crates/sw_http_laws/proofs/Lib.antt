@@ -1,0 +1,5 @@
+pub mod Cuts
+pub mod Logs
+pub mod Session
+pub mod Standing
+pub mod Link
