@@ -49,13 +49,13 @@ first_same max r x y m n (inr a) b = absurd a.1
 
 -- ---- where more is awaited, or a fault stands, no request comes
 
-more_none : (max : ℕ) (r : List ℕ) → HttpFirst max r More → HasNone max r
-more_none max r (inl a) y n (inl b) =
+pub none_behind : (max : ℕ) (r : List ℕ) → HttpFirst max r More → HasNone max r
+none_behind max r (inl a) y n (inl b) =
     let e : More ≡ Request y n = a.2 ∙ ap (by_head max r) (same_head (take max r) a.0 b.0 a.1 b.1) ∙ sym b.2 in
     absurd cc
-more_none max r (inl a) y n (inr b) = absurd b.1
-more_none max r (inr a) y n (inl b) = absurd (a.0 b.0 b.1)
-more_none max r (inr a) y n (inr b) = absurd b.1
+none_behind max r (inl a) y n (inr b) = absurd b.1
+none_behind max r (inr a) y n (inl b) = absurd (a.0 b.0 b.1)
+none_behind max r (inr a) y n (inr b) = absurd b.1
 
 -- the front of bytes, with others behind them
 front_more : (m : ℕ) (r piece : List ℕ) → (more : List ℕ) × (take m (r ++ piece) ≡ take m r ++ more)
@@ -74,7 +74,6 @@ fault_or_more (faults.TooLong m) e = cc
 fault_or_more faults.BadHead e = cc
 fault_or_more faults.Coded e = cc
 fault_or_more faults.BadLength e = cc
-
 
 count_any : (fault : HttpFault) (y x z : List ℕ) (n head total : ℕ) (s t u : Bool)
     → told fault ≡ (if s then TooLong total else if t then Request x head else More)
@@ -113,12 +112,6 @@ fault_none fault max r later (inl a) y n (inr b) = absurd b.1
 fault_none fault max r later (inr a) y n (inl b) = absurd (headless fault max r later a.0 a.1 b.0 b.1)
 fault_none fault max r later (inr a) y n (inr b) = absurd b.1
 
-pub none_behind : (max : ℕ) (r : List ℕ) → HttpFirst max r More → HasNone max r
-none_behind max r is = more_none max r is
-
-
-
-
 -- ---- cuts
 
 each_more : (max : ℕ) (qs : List (List ℕ × ℕ)) (rest later : List ℕ) → EachIsFirst max qs rest → EachIsFirst max qs (rest ++ later)
@@ -144,7 +137,8 @@ each_begins max (q ∷ qs) (p ∷ ps) rest behind a b e none =
     let head : q.1 ≡ p.1 = ap head_in one in
     let left : joined qs ++ rest ≡ joined ps ++ behind = append_cancel_left q.0 (joined qs ++ rest) (joined ps ++ behind) (here ∙ ap (λ x. x ++ (joined ps ++ behind)) (sym bytes)) in
     let next = each_begins max qs ps rest behind a.1 b.1 left none in
-    (next.0, ap (λ xs. q ∷ xs) next.1 ∙ ap (λ (x : List ℕ × ℕ). x ∷ ps) (λ i. (bytes i, head i)))
+    let same : q ≡ p = λ i. (bytes i, head i) in
+    (next.0, ap (λ xs. q ∷ xs) next.1 ∙ ap (λ (x : List ℕ × ℕ). x ∷ ps) same)
 
 -- what is cut from a beginning of some bytes begins all requests of them
 pub cut_begins : (max : ℕ) (front bytes : List ℕ) (qs ps : List (List ℕ × ℕ)) (rest : List ℕ) → IsPrefix front bytes → IsCut max front qs rest → AreRequests max bytes ps → IsPrefix qs ps

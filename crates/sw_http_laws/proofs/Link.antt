@@ -3,6 +3,7 @@ use Rattle.std.proofs.Common.{◌≡◌, ℕ, zero, suc, ◌+◌, ◌≤◌, Boo
 use Rattle.std.specs.List.{concat}
 use Rattle.std.specs.Prelude.{slice_get}
 use Rattle.sw_frame.specs.Cut.{filled, cut}
+use Rattle.sw_frame.specs.declared.framing.Framing.{Framing}
 use Rattle.sw_frame.specs.declared.framing.Framing.TheVariants.{Raw}
 use Rattle.sw_lists.specs.Lists.{IsPrefix, Has}
 use Rattle.sw_lists.proofs.Lists.{prefix_front}
@@ -55,7 +56,7 @@ raw_packets pieces = refl
 -- the bytes of a link's packets are those of its pieces
 bytes_of_link : (t : Terms) (l : LinkRecord) → IsWeb t → concat (contents (packets_on t l)) ≡ concat l.pieces
 bytes_of_link t l web =
-    ap concat (contents_numbered 0 (packets_cut t l.pieces)) ∙ ap (λ f. concat (cut f l.pieces).packets) web.raw ∙ ap concat (raw_packets l.pieces) ∙ concat_filled l.pieces
+    ap concat (contents_numbered 0 (packets_cut t l.pieces)) ∙ ap (λ (f : Framing). concat (cut f l.pieces).packets) web.raw ∙ ap concat (raw_packets l.pieces) ∙ concat_filled l.pieces
 
 begins_bytes : (t : Terms) (l : LinkRecord) (ps : List (ℕ × List ℕ)) → IsWeb t → IsPrefix ps (packets_on t l) → IsPrefix (concat (contents ps)) (concat l.pieces)
 begins_bytes t l ps web begins = (concat (contents begins.0), sym (bytes_append ps begins.0) ∙ ap (λ (l : List (ℕ × List ℕ)). concat (contents l)) begins.1 ∙ bytes_of_link t l web)
@@ -139,7 +140,7 @@ serving_all max s v bytes log is (inr more) = more_all max bytes (given_in is.ca
 
 -- this session was told its end
 has_none : (es : List Event) (e : Event) → es ≡ [] → Has e es → ⊥
-has_none [] e none has = cc
+has_none [] e none (at, is) = cc
 has_none (x ∷ es) e none has = cc
 
 standing_all : {H : Type 0} (tell : H → Log) (max s : ℕ) (w : HttpWorker H) (past : Log) (last : Act) → is_done last ≡ true → Has (Closed s) (told_of s past) → Standing tell max s w past last → AreAll max (bytes_on s past) (Handled (tell (inner_of w)) s)
@@ -150,11 +151,11 @@ standing_all tell max s w past last done has (Behind v es is kept serving idle) 
 -- ---- the record
 
 kept_not_five : (m : ℕ) → keeps m ≡ true → m ≡ 5 → ⊥
-kept_not_five m is e = let five : keeps 5 ≡ true = subst (λ n. keeps n ≡ true) e is in cc
+kept_not_five m is e = let five : keeps 5 ≡ true = subst (λ n. keeps n ≡ true) e is in true≢false (sym five)
 
 kept_not_spread : (m : ℕ) → keeps m ≡ true → IsSpread m → ⊥
-kept_not_spread m is (inl e) = let one : keeps 1 ≡ true = subst (λ n. keeps n ≡ true) e is in cc
-kept_not_spread m is (inr e) = let three : keeps 3 ≡ true = subst (λ n. keeps n ≡ true) e is in cc
+kept_not_spread m is (inl e) = let one : keeps 1 ≡ true = subst (λ n. keeps n ≡ true) e is in true≢false (sym one)
+kept_not_spread m is (inr e) = let three : keeps 3 ≡ true = subst (λ n. keeps n ≡ true) e is in true≢false (sym three)
 
 in_order : (t : Terms) (r : Record) → keeps t.mode ≡ true → Ordered t r → InOrderKept t r
 in_order t r kept (Kept is ordered) = ordered

@@ -2,7 +2,8 @@
 use Rattle.std.proofs.Common.{◌≡◌, ℕ, ◌+◌, Bool, true, false, List, [], ◌∷◌, ◌++◌, length, take, refl, sym, ap, ◌∙◌, subst, arith, append_assoc, append-nil, ◌⊎◌, inl, inr, cond}
 use Rattle.std.specs.Prelude.{◌==◌}
 use Rattle.std.specs.List.{concat}
-use Rattle.sw_lists.specs.Lists.{collect, when, IsPrefix}
+use Rattle.std.proofs.lemmas.List.Folds.{concat-append}
+use Rattle.sw_lists.specs.Lists.{collect, when}
 use Rattle.sw_lists.proofs.Lists.{collect-append, eq_same, eq_other, append_none}
 use Rattle.sw_record.specs.Dialogue.{MayFollow, DialogueAfter}
 use Rattle.sw_record.specs.Logs.{of_session, event_of, events_of, told_of, packet_in, packets_in, Handled, EndsDone}
@@ -64,12 +65,8 @@ contents_append : (ps qs : List (ℕ × List ℕ)) → contents (ps ++ qs) ≡ c
 contents_append [] qs = refl
 contents_append (p ∷ ps) qs = ap (λ l. p.1 ∷ l) (contents_append ps qs)
 
-concat_append : (xs ys : List (List ℕ)) → concat (xs ++ ys) ≡ concat xs ++ concat ys
-concat_append [] ys = refl
-concat_append (x ∷ xs) ys = ap (λ l. x ++ l) (concat_append xs ys) ∙ sym (append_assoc x (concat xs) (concat ys))
-
 pub bytes_append : (ps qs : List (ℕ × List ℕ)) → concat (contents (ps ++ qs)) ≡ concat (contents ps) ++ concat (contents qs)
-bytes_append ps qs = ap concat (contents_append ps qs) ∙ concat_append (contents ps) (contents qs)
+bytes_append ps qs = ap concat (contents_append ps qs) ∙ concat-append (contents ps) (contents qs)
 
 pub bytes_packet : (s i : ℕ) (b : List ℕ) (a : Act) (xs : Log) → bytes_on s (xs ++ told (Packet s i b) a) ≡ bytes_on s xs ++ b
 bytes_packet s i b a xs =

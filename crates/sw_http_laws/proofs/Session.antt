@@ -90,7 +90,7 @@ given_step acts tell tells max s old v bytes request head act new is gives =
     let qs = given_in is.calls in
     let length_one : length (qs ++ (request, head) ∷ []) ≡ length qs + 1 = logs.length_one qs (request, head) in
     let entry : Handled (tell new) s ≡ Handled (tell old) s ++ (v.given, request) ∷ [] =
-        ap (λ (l : Log). Handled l s) (tells old (EventGiven (Packet s v.given request)) act new gives.acted) ∙ logs.handled_packet s v.given request act (tell old) in
+    ap (λ (l : Log). Handled l s) (tells old (EventGiven (Packet s v.given request)) act new gives.acted) ∙ logs.handled_packet s v.given request act (tell old) in
     let at : v.given ≡ 0 + length (texts qs) = omega (arith, is.count, logs.texts_length qs) in
     record {
       calls = Answer (Request request head) ∷ is.calls;

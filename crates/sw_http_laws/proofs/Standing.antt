@@ -25,7 +25,10 @@ use Rattle.sw_http_laws.proofs.Session.{IsServing, IsIdle, Phase, phase_idle, wi
 
 -- ---- a session that is fresh has no request
 
-none_taken : (n : ℕ) → length (take {A = ℕ} n []) ≡ 0
+abbrev no_bytes : List ℕ
+no_bytes = []
+
+none_taken : (n : ℕ) → length (take n no_bytes) ≡ 0
 none_taken zero = refl
 none_taken (suc n) = refl
 
@@ -77,20 +80,20 @@ record IsOpened {H : Type 0} (tell : H → Log) (max s : ℕ) (w : HttpWorker H)
 
 opened : {H : Type 0} (tell : H → Log) (max s : ℕ) (w : HttpWorker H) (past : Log) (last : Act) → 0 < max → max_of w ≡ max → is_done last ≡ true → ((es : List Event) → told_of s past ≡ es ++ Closed s ∷ [] → ⊥)
     → Standing tell max s w past last → IsOpened tell max s w past
-opened tell max s w past last fit same done open (Before none handled kept) =
+opened tell max s w past last fit same done unended (Before none handled kept) =
     let is : serving_of w s ≡ fresh max = ap (serving_or (max_of w)) kept ∙ ap fresh same in
     let nothing : bytes_on s past ≡ [] = ap (λ (es : List Event). concat (contents (packets_in es))) none in
     record {
       serving = subst (λ v. IsServing max s v (bytes_on s past) (tell (inner_of w))) (sym is) (with_bytes max s (fresh max) [] (bytes_on s past) (tell (inner_of w)) nothing (at_first max s (tell (inner_of w)) handled));
       idle = subst IsIdle (sym is) (fresh_idle max fit);
     }
-opened tell max s w past last fit same done open (During v kept serving phase) =
+opened tell max s w past last fit same done unended (During v kept serving phase) =
     let is : serving_of w s ≡ v = ap (serving_or (max_of w)) kept in
     record {
       serving = subst (λ x. IsServing max s x (bytes_on s past) (tell (inner_of w))) (sym is) serving;
       idle = subst IsIdle (sym is) (phase_idle s (doing_of w) last v done phase);
     }
-opened tell max s w past last fit same done open (Behind v es is kept serving idle) = absurd (open es is)
+opened tell max s w past last fit same done unended (Behind v es is kept serving idle) = absurd (unended es is)
 
 -- ---- an event
 
@@ -107,7 +110,7 @@ came : {H : Type 0} (acts : Acts H) (tell : H → Log) → Tells acts tell → (
     → Serves acts s (inner_of old) (with_piece (serving_of old s) piece) act (doing_of new) (inner_of new) w → Keeps old new s (Some w) → IsOpened tell max s old past → Standing tell max s new (past ++ told (Packet s i piece) act) act
 came acts tell tells max s i piece old new past act w serves keeps is =
     let stopped = served acts tell tells max s (inner_of old) (with_piece (serving_of old s) piece) (bytes_on s past ++ piece) act (doing_of new) (inner_of new) w
-          (fed_more max s (serving_of old s) (bytes_on s past) piece (tell (inner_of old)) is.serving) serves in
+    (fed_more max s (serving_of old s) (bytes_on s past) piece (tell (inner_of old)) is.serving) serves in
     During w keeps.this
     (with_bytes max s w (bytes_on s past ++ piece) (bytes_on s (past ++ told (Packet s i piece) act)) (tell (inner_of new)) (bytes_packet s i piece act past) stopped.serving)
     stopped.phase
@@ -138,52 +141,52 @@ not_same u s ne e = ne (sym e)
 not_closed : (s : ℕ) (past rest : Log) (entry : Log) (y : Event) → told_of s entry ≡ y ∷ [] → ClosedLast (told_of s ((past ++ entry) ++ rest)) → (es : List Event) → told_of s past ≡ es ++ Closed s ∷ [] → ⊥
 not_closed s past rest entry y is last es ends =
     let whole : told_of s ((past ++ entry) ++ rest) ≡ es ++ Closed s ∷ y ∷ told_of s rest =
-        told_append s (past ++ entry) rest ∙ ap (λ (l : List Event). l ++ told_of s rest) (told_append s past entry ∙ ap (λ (l : List Event). l ++ told_of s entry) ends ∙ ap (λ (l : List Event). (es ++ Closed s ∷ []) ++ l) is)
-        ∙ append_assoc (es ++ Closed s ∷ []) (y ∷ []) (told_of s rest) ∙ append_assoc es (Closed s ∷ []) (y ∷ told_of s rest) in
+    told_append s (past ++ entry) rest ∙ ap (λ (l : List Event). l ++ told_of s rest) (told_append s past entry ∙ ap (λ (l : List Event). l ++ told_of s entry) ends ∙ ap (λ (l : List Event). (es ++ Closed s ∷ []) ++ l) is)
+    ∙ append_assoc (es ++ Closed s ∷ []) (y ∷ []) (told_of s rest) ∙ append_assoc es (Closed s ∷ []) (y ∷ told_of s rest) in
     closed_is_last es s y (told_of s rest) (subst ClosedLast whole last)
 
 on_event : {H : Type 0} (acts : Acts H) (tell : H → Log) → Tells acts tell → (max s : ℕ) → 0 < max → (old new : HttpWorker H) (past rest : Log) (last : Act) (e : Event) (act : Act)
     → max_of old ≡ max → is_done last ≡ true → ClosedLast (told_of s ((past ++ told e act) ++ rest)) → OnEvent acts old e act new → Standing tell max s old past last → Standing tell max s new (past ++ told e act) act
 on_event acts tell tells max s fit old new past rest last (Connect u) act same done ends on is = elim (equal_or_not u s) [
   | inl e ↦
-    let keeps : Keeps old new s (Some (serving_of old s)) = subst (λ x. Keeps old new x (Some (serving_of old x))) e on.1 in
-    let passes : Passes acts old (EventGiven (Connect s)) act new = subst (λ x. Passes acts old (EventGiven (Connect x)) act new) e on.0 in
-    let ends_here : ClosedLast (told_of s ((past ++ told (Connect s) act) ++ rest)) = subst (λ x. ClosedLast (told_of s ((past ++ told (Connect x) act) ++ rest))) e ends in
-    subst (λ x. Standing tell max s new (past ++ told (Connect x) act) act) (sym e)
-    (connected acts tell tells max s old new past act passes keeps
-    (opened tell max s old past last fit same done (not_closed s past rest (told (Connect s) act) (Connect s) (told_connect s act) ends_here) is))
+      let keeps : Keeps old new s (Some (serving_of old s)) = subst (λ x. Keeps old new x (Some (serving_of old x))) e on.1 in
+      let passes : Passes acts old (EventGiven (Connect s)) act new = subst (λ x. Passes acts old (EventGiven (Connect x)) act new) e on.0 in
+      let ends_here : ClosedLast (told_of s ((past ++ told (Connect s) act) ++ rest)) = subst (λ x. ClosedLast (told_of s ((past ++ told (Connect x) act) ++ rest))) e ends in
+      subst (λ x. Standing tell max s new (past ++ told (Connect x) act) act) (sym e)
+      (connected acts tell tells max s old new past act passes keeps
+      (opened tell max s old past last fit same done (not_closed s past rest (told (Connect s) act) (Connect s) (told_connect s act) ends_here) is))
   | inr ne ↦
-    quiet tell max s old new past (told (Connect u) act) last act
-    (beside acts tell tells s old new (EventGiven (Connect u)) last act (other_connect u s act ne) (on.1.others s (not_same u s ne)) on.0 (λ v phase. phase_idle s (doing_of old) last v done phase)) is
+      quiet tell max s old new past (told (Connect u) act) last act
+      (beside acts tell tells s old new (EventGiven (Connect u)) last act (other_connect u s act ne) (on.1.others s (not_same u s ne)) on.0 (λ v phase. phase_idle s (doing_of old) last v done phase)) is
 ]
 on_event acts tell tells max s fit old new past rest last (Packet u i piece) act same done ends (w, serves, keeps) is = elim (equal_or_not u s) [
   | inl e ↦
-    let keeps_it : Keeps old new s (Some w) = subst (λ x. Keeps old new x (Some w)) e keeps in
-    let serves_it : Serves acts s (inner_of old) (with_piece (serving_of old s) piece) act (doing_of new) (inner_of new) w =
-        subst (λ x. Serves acts x (inner_of old) (with_piece (serving_of old x) piece) act (doing_of new) (inner_of new) w) e serves in
-    let ends_here : ClosedLast (told_of s ((past ++ told (Packet s i piece) act) ++ rest)) = subst (λ x. ClosedLast (told_of s ((past ++ told (Packet x i piece) act) ++ rest))) e ends in
-    subst (λ x. Standing tell max s new (past ++ told (Packet x i piece) act) act) (sym e)
-    (came acts tell tells max s i piece old new past act w serves_it keeps_it
-    (opened tell max s old past last fit same done (not_closed s past rest (told (Packet s i piece) act) (Packet s i piece) (told_packet s i piece act) ends_here) is))
+      let keeps_it : Keeps old new s (Some w) = subst (λ x. Keeps old new x (Some w)) e keeps in
+      let serves_it : Serves acts s (inner_of old) (with_piece (serving_of old s) piece) act (doing_of new) (inner_of new) w =
+      subst (λ x. Serves acts x (inner_of old) (with_piece (serving_of old x) piece) act (doing_of new) (inner_of new) w) e serves in
+      let ends_here : ClosedLast (told_of s ((past ++ told (Packet s i piece) act) ++ rest)) = subst (λ x. ClosedLast (told_of s ((past ++ told (Packet x i piece) act) ++ rest))) e ends in
+      subst (λ x. Standing tell max s new (past ++ told (Packet x i piece) act) act) (sym e)
+      (came acts tell tells max s i piece old new past act w serves_it keeps_it
+      (opened tell max s old past last fit same done (not_closed s past rest (told (Packet s i piece) act) (Packet s i piece) (told_packet s i piece act) ends_here) is))
   | inr ne ↦
-    quiet tell max s old new past (told (Packet u i piece) act) last act (record {
-      untold = other_packet u s i piece act ne;
-      kept = keeps.others s (not_same u s ne);
-      handled = other_serves acts tell tells u s (inner_of old) (with_piece (serving_of old u) piece) act (doing_of new) (inner_of new) w ne serves;
-      phase = λ v kept phase. other_phase acts u s (inner_of old) (with_piece (serving_of old u) piece) v act (doing_of new) (inner_of new) w serves (phase_idle s (doing_of old) last v done phase);
-    }) is
+      quiet tell max s old new past (told (Packet u i piece) act) last act (record {
+        untold = other_packet u s i piece act ne;
+        kept = keeps.others s (not_same u s ne);
+        handled = other_serves acts tell tells u s (inner_of old) (with_piece (serving_of old u) piece) act (doing_of new) (inner_of new) w ne serves;
+        phase = λ v kept phase. other_phase acts u s (inner_of old) (with_piece (serving_of old u) piece) v act (doing_of new) (inner_of new) w serves (phase_idle s (doing_of old) last v done phase);
+      }) is
 ]
 on_event acts tell tells max s fit old new past rest last (Closed u) act same done ends on is = elim (equal_or_not u s) [
   | inl e ↦
-    let keeps : Keeps old new s None = subst (λ x. Keeps old new x None) e on.1 in
-    let passes : Passes acts old (EventGiven (Closed s)) act new = subst (λ x. Passes acts old (EventGiven (Closed x)) act new) e on.0 in
-    let ends_here : ClosedLast (told_of s ((past ++ told (Closed s) act) ++ rest)) = subst (λ x. ClosedLast (told_of s ((past ++ told (Closed x) act) ++ rest))) e ends in
-    subst (λ x. Standing tell max s new (past ++ told (Closed x) act) act) (sym e)
-    (closed acts tell tells max s old new past act passes keeps
-    (opened tell max s old past last fit same done (not_closed s past rest (told (Closed s) act) (Closed s) (told_closed s act) ends_here) is))
+      let keeps : Keeps old new s None = subst (λ x. Keeps old new x None) e on.1 in
+      let passes : Passes acts old (EventGiven (Closed s)) act new = subst (λ x. Passes acts old (EventGiven (Closed x)) act new) e on.0 in
+      let ends_here : ClosedLast (told_of s ((past ++ told (Closed s) act) ++ rest)) = subst (λ x. ClosedLast (told_of s ((past ++ told (Closed x) act) ++ rest))) e ends in
+      subst (λ x. Standing tell max s new (past ++ told (Closed x) act) act) (sym e)
+      (closed acts tell tells max s old new past act passes keeps
+      (opened tell max s old past last fit same done (not_closed s past rest (told (Closed s) act) (Closed s) (told_closed s act) ends_here) is))
   | inr ne ↦
-    quiet tell max s old new past (told (Closed u) act) last act
-    (beside acts tell tells s old new (EventGiven (Closed u)) last act (other_closed u s act ne) (on.1.others s (not_same u s ne)) on.0 (λ v phase. phase_idle s (doing_of old) last v done phase)) is
+      quiet tell max s old new past (told (Closed u) act) last act
+      (beside acts tell tells s old new (EventGiven (Closed u)) last act (other_closed u s act ne) (on.1.others s (not_same u s ne)) on.0 (λ v phase. phase_idle s (doing_of old) last v done phase)) is
 ]
 on_event acts tell tells max s fit old new past rest last (Finish id b) act same done ends on is =
     quiet tell max s old new past (told (Finish id b) act) last act
@@ -205,10 +208,10 @@ alone tell s old new doing was a last act at idle phase acts = record {
 }
 
 none_some : {A : Type 0} (o : Option A) (x : A) → o ≡ None → o ≡ Some x → ⊥
-none_some o x a b = let e = sym a ∙ b in cc
+none_some o x a b = let e : None ≡ Some x = sym a ∙ b in cc
 
 some_same : {A : Type 0} (o : Option A) (x y : A) → o ≡ Some x → o ≡ Some y → x ≡ y
-some_same o x y a b = let e = sym a ∙ b in cc
+some_same o x y a b = let e : Some x ≡ Some y = sym a ∙ b in cc
 
 -- the requests of this session go on
 serving_on : {H : Type 0} (acts : Acts H) (tell : H → Log) → Tells acts tell → (max s : ℕ) (old mid new : HttpWorker H) (past : Log) (last : Act) (a : Answer) (act : Act) (x w : Serving)
@@ -219,7 +222,7 @@ serving_on acts tell tells max s old mid new past last a act x w here kept handl
 serving_on acts tell tells max s old mid new past last a act x w here kept handled keeps serves (During v k serving phase) =
     let same : x ≡ v = some_same (kept_of mid s) x v here (kept s ∙ k) in
     let at : IsServing max s x (bytes_on s past) (tell (inner_of mid)) =
-        subst (λ y. IsServing max s y (bytes_on s past) (tell (inner_of mid))) (sym same) (with_log max s v (bytes_on s past) (tell (inner_of old)) (tell (inner_of mid)) handled serving) in
+    subst (λ y. IsServing max s y (bytes_on s past) (tell (inner_of mid))) (sym same) (with_log max s v (bytes_on s past) (tell (inner_of old)) (tell (inner_of mid)) handled serving) in
     let stopped = served acts tell tells max s (inner_of mid) x (bytes_on s past) act (doing_of new) (inner_of new) w at serves in
     During w keeps.this (with_bytes max s w (bytes_on s past) (bytes_on s (past ++ (AnswerGiven a, act) ∷ [])) (tell (inner_of new)) (bytes_none s past ((AnswerGiven a, act) ∷ []) refl) stopped.serving) stopped.phase
 
@@ -233,25 +236,25 @@ next_by acts tell tells max s u old mid new past last a act None kept_is doing k
       kept = all s ∙ kept s;
       handled = ap (λ h. Handled (tell h) s) inner ∙ handled;
       phase = λ v has phase.
-        let before : Phase s (doings.Serving u) last v = subst (λ d. Phase s d last v) doing phase in
-        idle_phase s (doing_of new) act v passing
-        (before.1 (λ e. none_some (kept_of mid s) v (subst (λ x. kept_of mid x ≡ None) e kept_is) (kept s ∙ has)));
+          let before : Phase s (doings.Serving u) last v = subst (λ d. Phase s d last v) doing phase in
+          idle_phase s (doing_of new) act v passing
+          (before.1 (λ e. none_some (kept_of mid s) v (subst (λ x. kept_of mid x ≡ None) e kept_is) (kept s ∙ has)));
     }) is
 next_by acts tell tells max s u old mid new past last a act (Some x) kept_is doing kept handled (w, serves, keeps) is = elim (equal_or_not u s) [
   | inl e ↦
-    let here : kept_of mid s ≡ Some x = subst (λ y. kept_of mid y ≡ Some x) e kept_is in
-    let keeps_it : Keeps mid new s (Some w) = subst (λ y. Keeps mid new y (Some w)) e keeps in
-    let serves_it : Serves acts s (inner_of mid) x act (doing_of new) (inner_of new) w = subst (λ y. Serves acts y (inner_of mid) x act (doing_of new) (inner_of new) w) e serves in
-    serving_on acts tell tells max s old mid new past last a act x w here kept handled keeps_it serves_it is
+      let here : kept_of mid s ≡ Some x = subst (λ y. kept_of mid y ≡ Some x) e kept_is in
+      let keeps_it : Keeps mid new s (Some w) = subst (λ y. Keeps mid new y (Some w)) e keeps in
+      let serves_it : Serves acts s (inner_of mid) x act (doing_of new) (inner_of new) w = subst (λ y. Serves acts y (inner_of mid) x act (doing_of new) (inner_of new) w) e serves in
+      serving_on acts tell tells max s old mid new past last a act x w here kept handled keeps_it serves_it is
   | inr ne ↦
-    quiet tell max s old new past ((AnswerGiven a, act) ∷ []) last act (record {
-      untold = refl;
-      kept = keeps.others s (not_same u s ne) ∙ kept s;
-      handled = other_serves acts tell tells u s (inner_of mid) x act (doing_of new) (inner_of new) w ne serves ∙ handled;
-      phase = λ v has phase.
-        let before : Phase s (doings.Serving u) last v = subst (λ d. Phase s d last v) doing phase in
-        other_phase acts u s (inner_of mid) x v act (doing_of new) (inner_of new) w serves (before.1 ne);
-    }) is
+      quiet tell max s old new past ((AnswerGiven a, act) ∷ []) last act (record {
+        untold = refl;
+        kept = keeps.others s (not_same u s ne) ∙ kept s;
+        handled = other_serves acts tell tells u s (inner_of mid) x act (doing_of new) (inner_of new) w ne serves ∙ handled;
+        phase = λ v has phase.
+            let before : Phase s (doings.Serving u) last v = subst (λ d. Phase s d last v) doing phase in
+            other_phase acts u s (inner_of mid) x v act (doing_of new) (inner_of new) w serves (before.1 ne);
+      }) is
 ]
 
 goes_on_by : {H : Type 0} (acts : Acts H) (tell : H → Log) → Tells acts tell → (max s u : ℕ) (old new : HttpWorker H) (past : Log) (last : Act) (a : Answer) (act : Act) (g : GoesOn acts old u (AnswerGiven a) act new)
@@ -266,8 +269,8 @@ goes_on_by acts tell tells max s u old new past last a act g (inr busy) doing is
       kept = ap (λ w. kept_of w s) own.1 ∙ g.kept s;
       handled = ap (λ w. Handled (tell (inner_of w)) s) own.1 ∙ passed_on acts tell tells s (inner_of old) (inner_of g.handler) (AnswerGiven a) g.own refl g.acted;
       phase = λ v has phase.
-        let before : Phase s (doings.Serving u) last v = subst (λ d. Phase s d last v) doing phase in
-        subst (λ d. Phase s d act v) (sym (ap doing_of own.1 ∙ g.doing ∙ doing)) (ap is_done own.0 ∙ busy, before.1);
+          let before : Phase s (doings.Serving u) last v = subst (λ d. Phase s d last v) doing phase in
+          subst (λ d. Phase s d act v) (sym (ap doing_of own.1 ∙ g.doing ∙ doing)) (ap is_done own.0 ∙ busy, before.1);
     }) is
 
 on_answer : {H : Type 0} (acts : Acts H) (tell : H → Log) → Tells acts tell → (max s : ℕ) (old new : HttpWorker H) (past : Log) (last : Act) (a : Answer) (act : Act) (was : Doing)

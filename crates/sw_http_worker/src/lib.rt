@@ -2,6 +2,7 @@
 //! pieces of its links as packets, and it gives the handler inside one request after the other.
 #![tactic(auto)]
 
+mod acting;
 mod refusal;
 mod serving;
 mod worker;

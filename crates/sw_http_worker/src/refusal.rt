@@ -7,7 +7,8 @@ use std::alloc::Global;
 use sw_base::{Octets, OutOfMemory};
 
 /// The text of the refusal.
-const REFUSAL: &[u8] = b"HTTP/1.1 400 Bad Request\r\nContent-Length: 0\r\nConnection: close\r\n\r\n";
+const REFUSAL: &[u8] =
+    b"HTTP/1.1 400 Bad Request\r\nContent-Length: 0\r\nConnection: close\r\n\r\n";
 
 /// The bytes of the refusal.
 pub fn refusal(alloc: Global) -> Result<Octets, OutOfMemory>

@@ -54,10 +54,10 @@ returns-clause-sound c = record {
   worker_num = c.small-14.ensures.bounds;
   marked = λ split. subst (λ (o : Option (List ℕ)). IsSomeAnd o (λ mark. IsWithin 1 8 (length mark))) (sym c.in_ok-package_eof.ensures) (mark_is_set c.args.pairs.now c.requires (sym c.truth.ensures ∙ split));
   http = λ http.
-    let fit = http_fits c.args.pairs.now c.requires (sym c.truth-2.ensures ∙ http) in
-    record {
-      kept = ap keeps c.small.ensures.value ∙ fit.kept;
-      unmarked = c.truth.ensures ∙ fit.unmarked;
-      uncounted = c.truth-3.ensures ∙ fit.uncounted;
-    };
+      let fit = http_fits c.args.pairs.now c.requires (sym c.truth-2.ensures ∙ http) in
+      record {
+        kept = ap keeps c.small.ensures.value ∙ fit.kept;
+        unmarked = c.truth.ensures ∙ fit.unmarked;
+        uncounted = c.truth-3.ensures ∙ fit.uncounted;
+      };
 }
