@@ -12,11 +12,12 @@ ghost use Rattle.sw_table_laws.specs.Table.{Shape};
 ghost use Rattle.sw_join.specs.Legal.{LegalFor};
 ghost use Rattle.sw_http.specs.Calls.{IsCut};
 ghost use Rattle.sw_http_worker.specs.declared.worker.HttpWorker.{HttpWorker};
+ghost use Rattle.sw_handler.specs.Log.{log_of};
 ghost use Rattle.sw_http_laws.specs.Inside.{Tells};
 ghost use Rattle.sw_http_laws.specs.Requests.{AreRequests};
 ghost use Rattle.sw_http_laws.specs.Served.{IsWeb, IsServedBy, GivenInOrder, GivenAll};
 
-use sw_handler::Handler;
+use sw_handler::{Handler, Logged};
 
 /// In dispatch modes 2 and 4, where a link's pieces are its packets: of each session the handler inside was given requests that
 /// are cut from a beginning of what the link's pieces join to, in order, numbered from 0, each once.
@@ -35,4 +36,9 @@ pub fn all_requests_reach_the_handler<H: Handler>()
 /// Requests that are cut from a beginning of some bytes begin all requests of those.
 pub fn cut_requests_begin_all()
     ensures { (max : ℕ) (front bytes : List ℕ) (qs ps : List (List ℕ × ℕ)) (rest : List ℕ) → IsPrefix front bytes → IsCut max front qs rest → AreRequests max bytes ps → IsPrefix qs ps }
+{}
+
+/// A handler with its log is one that tells.
+pub fn logged_handlers_tell<H: Handler>()
+    ensures { Tells ⟦<Logged<H> as Handler>⟧.acts log_of }
 {}

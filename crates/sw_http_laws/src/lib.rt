@@ -5,5 +5,6 @@
 mod laws;
 
 pub use laws::{
-    all_requests_reach_the_handler, cut_requests_begin_all, requests_reach_the_handler_in_order,
+    all_requests_reach_the_handler, cut_requests_begin_all, logged_handlers_tell,
+    requests_reach_the_handler_in_order,
 };

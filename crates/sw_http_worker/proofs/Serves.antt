@@ -42,3 +42,7 @@ refuses acts s old v fault k (Err e) opens due is step = tt
 refuses acts s old v fault k (Ok step) opens due is e =
     subst (λ x. Steps acts s old v x old (record { cutter = k; given = v.given; refused = true })) (sym e)
     (refl, record { fault = fault; opens = opens; due = due; sends = refl; same = refl; kept = λ i. record { cutter = is i; given = v.given; refused = true } })
+
+-- the handler is done with one more, and the next one may follow
+pub goes_on : {H : Type 0} (acts : Acts H) (s : ℕ) (old : H) (v : Serving) (m : H) (u : Serving) (step : Step) (new : H) (w : Serving) → HaveGiven acts s old v m u → step ≡ Again → Steps acts s m u step new w → HaveGiven acts s old v new w
+goes_on acts s old v m u step new w is again steps = given_more acts s old v m u new w is (subst (λ x. Steps acts s m u x new w) again steps)

@@ -154,10 +154,14 @@ impl<H: Handler> HttpWorker<H> {
         ensures made { IsMade H.made self.old self.new }
         ensures acts { IfOk result (λ act. OnAnswer H.acts self.old given.now act self.new self.old.doing) }
     {
-        match self.doing {
+        match &self.doing {
             Doing::Passing => self.pass(alloc, given),
-            Doing::Serving(session) => self.answered(alloc, session, given),
+            Doing::Serving(session) => {
+                let session = *session;
+                self.answered(alloc, session, given)
+            }
             Doing::Refusing(session) => {
+                let session = *session;
                 self.doing = Doing::Closing;
                 Ok(Act::Close(session))
             }
