@@ -115,9 +115,9 @@ came acts tell tells max s i piece old new past act w serves keeps is =
     (with_bytes max s w (bytes_on s past ++ piece) (bytes_on s (past ++ told (Packet s i piece) act)) (tell (inner_of new)) (bytes_packet s i piece act past) stopped.serving)
     stopped.phase
 
-closed : {H : Type 0} (acts : Acts H) (tell : H → Log) → Tells acts tell → (max s : ℕ) (old new : HttpWorker H) (past : Log) (act : Act)
+was_closed : {H : Type 0} (acts : Acts H) (tell : H → Log) → Tells acts tell → (max s : ℕ) (old new : HttpWorker H) (past : Log) (act : Act)
     → Passes acts old (EventGiven (Closed s)) act new → Keeps old new s None → IsOpened tell max s old past → Standing tell max s new (past ++ told (Closed s) act) act
-closed acts tell tells max s old new past act passes keeps is =
+was_closed acts tell tells max s old new past act passes keeps is =
     let none : packets_in (told_of s (told (Closed s) act)) ≡ [] = ap packets_in (told_closed s act) in
     Behind (serving_of old s) (told_of s past) (told_append s past (told (Closed s) act) ∙ ap (λ (l : List Event). told_of s past ++ l) (told_closed s act)) keeps.this
     (with_bytes max s (serving_of old s) (bytes_on s past) (bytes_on s (past ++ told (Closed s) act)) (tell (inner_of new)) (bytes_none s past (told (Closed s) act) none)
@@ -182,7 +182,7 @@ on_event acts tell tells max s fit old new past rest last (Closed u) act same do
       let passes : Passes acts old (EventGiven (Closed s)) act new = subst (λ x. Passes acts old (EventGiven (Closed x)) act new) e on.0 in
       let ends_here : ClosedLast (told_of s ((past ++ told (Closed s) act) ++ rest)) = subst (λ x. ClosedLast (told_of s ((past ++ told (Closed x) act) ++ rest))) e ends in
       subst (λ x. Standing tell max s new (past ++ told (Closed x) act) act) (sym e)
-      (closed acts tell tells max s old new past act passes keeps
+      (was_closed acts tell tells max s old new past act passes keeps
       (opened tell max s old past last fit same done (not_closed s past rest (told (Closed s) act) (Closed s) (told_closed s act) ends_here) is))
   | inr ne ↦
       quiet tell max s old new past (told (Closed u) act) last act
