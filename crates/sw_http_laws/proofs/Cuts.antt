@@ -127,6 +127,7 @@ cut_more max bytes later qs rest is =
 
 -- requests that are cut from the same bytes begin one another, where behind the second ones none comes
 each_begins : (max : ℕ) (qs ps : List (List ℕ × ℕ)) (rest behind : List ℕ) → EachIsFirst max qs rest → EachIsFirst max ps behind → joined qs ++ rest ≡ joined ps ++ behind → HasNone max behind → IsPrefix qs ps
+unfolding bytes_in head_in
 each_begins max [] ps rest behind a b e none = (ps, refl)
 each_begins max (q ∷ qs) [] rest behind a b e none =
     absurd (none q.0 q.1 (subst (λ x. HttpFirst max x (Request q.0 q.1)) (sym (append_assoc q.0 (joined qs) rest) ∙ e) a.0))

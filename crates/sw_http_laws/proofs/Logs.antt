@@ -119,7 +119,7 @@ last_end a (x ∷ xs) g = last_end x.1 xs g
 
 pub done_last : (log : Log) → (log ≡ []) ⊎ EndsDone log → is_done (last_of Done log) ≡ true
 done_last log (inl none) = ap (λ (l : Log). is_done (last_of Done l)) none
-done_last log (inr (front, given, is)) = ap (λ (l : Log). is_done (last_of Done l)) is ∙ ap is_done (last_end Done front given)
+done_last log (inr (front, (given, is))) = ap (λ (l : Log). is_done (last_of Done l)) is ∙ ap is_done (last_end Done front given)
 
 -- ---- nothing comes behind a Closed
 
