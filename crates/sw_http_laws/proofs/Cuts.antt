@@ -1,8 +1,8 @@
 -- The requests that are cut from some bytes are the only ones.
-use Rattle.std.proofs.Common.{◌≡◌, ℕ, zero, suc, ◌+◌, ◌≤◌, Bool, true, false, List, [], ◌∷◌, ◌++◌, length, take, map, Option, Some, None, refl, sym, ap, ◌∙◌, subst, arith, append_assoc, append-nil, inl, inr}
+use Rattle.std.proofs.Common.{◌≡◌, ℕ, zero, suc, ◌+◌, Bool, true, false, List, [], ◌∷◌, ◌++◌, length, take, map, Option, Some, None, refl, sym, ap, ◌∙◌, subst, append_assoc, inl, inr}
 use Rattle.std.specs.Prelude.{nat_lt, nat_le, if◌then◌else◌}
 use Rattle.std.proofs.lemmas.List.{append_cancel_left, take-append-le}
-use Rattle.httparse.specs.Grammar.{RequestHead, ReadsRequest, print_request}
+use Rattle.httparse.specs.Grammar.{RequestHead, print_request}
 use Rattle.httparse.specs.Spans.{name_and_value}
 use Rattle.httparse.proofs.GrammarLemmas.{request_unique}
 use Rattle.sw_lists.specs.Lists.{IsPrefix}
@@ -11,7 +11,7 @@ use Rattle.sw_http.specs.declared.next.HttpNext.TheVariants.{Request, More, TooL
 use Rattle.sw_http.specs.declared.next.HttpFault.{HttpFault}
 use Rattle.sw_http.specs.declared.next.HttpFault.TheVariants as faults
 use Rattle.sw_http.specs.Body.{has_coding, body_of}
-use Rattle.sw_http.specs.First.{HasHead, HasNoHead, NeverHasHead, body_by, by_head, IsWithoutHead, HttpFirst}
+use Rattle.sw_http.specs.First.{HasHead, HasNoHead, body_by, by_head, IsWithoutHead, HttpFirst}
 use Rattle.sw_http.specs.Cutting.{told}
 use Rattle.sw_http.specs.Calls.{joined, EachIsFirst, IsCut}
 use Rattle.sw_http.proofs.First.{head_fed}

@@ -1,37 +1,35 @@
 -- A link of the record, and what the handler inside was given of it.
-use Rattle.std.proofs.Common.{◌≡◌, ℕ, zero, suc, ◌+◌, ◌≤◌, Bool, true, false, List, [], ◌∷◌, ◌++◌, length, take, Option, Some, None, refl, sym, ap, ◌∙◌, subst, arith, append_assoc, append-nil, ◌⊎◌, inl, inr, true≢false}
+use Rattle.std.proofs.Common.{◌≡◌, ℕ, zero, suc, ◌+◌, true, List, [], ◌∷◌, ◌++◌, length, Option, Some, None, refl, sym, ap, ◌∙◌, subst, append_assoc, append-nil, inl, inr, true≢false}
 use Rattle.std.specs.List.{concat}
 use Rattle.std.specs.Prelude.{slice_get}
 use Rattle.sw_frame.specs.Cut.{filled, cut}
 use Rattle.sw_frame.specs.declared.framing.Framing.{Framing}
 use Rattle.sw_frame.specs.declared.framing.Framing.TheVariants.{Raw}
 use Rattle.sw_lists.specs.Lists.{IsPrefix, Has}
-use Rattle.sw_lists.proofs.Lists.{prefix_front}
-use Rattle.sw_record.specs.Dialogue.{Dialogue}
 use Rattle.sw_record.specs.Drained.{Drained}
-use Rattle.sw_record.specs.Logs.{told_of, packets_in, Handled}
-use Rattle.sw_record.specs.Order.{target, ClosedLast, IsInOrder, InOrderKept}
+use Rattle.sw_record.specs.Logs.{told_of, Handled}
+use Rattle.sw_record.specs.Order.{target, IsInOrder, InOrderKept}
 use Rattle.sw_record.specs.Orderly.{Ordered, Kept, Uid, Spread}
 use Rattle.sw_record.specs.Places.{Ran as Called}
 use Rattle.sw_record.specs.Right.{Right, ToldWhole, KeptWhole, UidWhole, SpreadWhole}
-use Rattle.sw_record.specs.Terms.{Terms, Outside, logs, HasLink, keeps, IsSpread, numbered, packets_cut, packets_on}
-use Rattle.sw_record.specs.Whole.{WholeKept, IsToldWhole}
-use Rattle.sw_record.specs.Words.{Event, Closed, Act, Done, Log, Ended}
+use Rattle.sw_record.specs.Terms.{Terms, Outside, keeps, IsSpread, numbered, packets_cut, packets_on}
+use Rattle.sw_record.specs.Whole.{WholeKept}
+use Rattle.sw_record.specs.Words.{Event, Closed, Act, Done, Log}
 use Rattle.sw_record.specs.declared.record.LinkRecord.{LinkRecord}
 use Rattle.sw_record.specs.declared.record.Record.{Record}
 use Rattle.sw_http.specs.declared.next.HttpNext.{HttpNext}
 use Rattle.sw_http.specs.declared.next.HttpNext.TheVariants.{Request, More, TooLong, BadHead, Coded, BadLength, OutOfMemory}
 use Rattle.sw_http.specs.declared.next.HttpFault.{HttpFault}
 use Rattle.sw_http.specs.First.{HttpFirst}
-use Rattle.sw_http.specs.Cutting.{Cutting, IsAnswerBy, IsAnswer, after, fed_by, told}
-use Rattle.sw_http.specs.Calls.{Call, Feed, Answer, fed_in, given_in, IsAfter, IsCut, IsExact}
+use Rattle.sw_http.specs.Cutting.{Cutting, IsAnswerBy, after, fed_by, told}
+use Rattle.sw_http.specs.Calls.{Call, Feed, Answer, given_in, IsAfter, IsCut, IsExact}
 use Rattle.sw_http.proofs.Calls.{exact}
 use Rattle.sw_http_worker.specs.declared.serving.Serving.{Serving}
 use Rattle.sw_http_worker.specs.declared.worker.HttpWorker.{HttpWorker}
 use Rattle.sw_http_worker.specs.Serving.{Acts, is_done, most}
 use Rattle.sw_http_worker.specs.Worker.{inner_of, doing_of}
-use Rattle.sw_http_laws.specs.Inside.{Tells, Ran, contents, bytes_on}
-use Rattle.sw_http_laws.specs.Requests.{HasNone, texts, AreCut, AreAll}
+use Rattle.sw_http_laws.specs.Inside.{Tells, contents, bytes_on}
+use Rattle.sw_http_laws.specs.Requests.{texts, AreCut, AreAll}
 use Rattle.sw_http_laws.specs.Served.{IsWeb, IsServedBy, GivenInOrder, GivenAll}
 use Rattle.sw_http_laws.proofs.Cuts.{fault_none, none_behind, cut_more, fault_or_more}
 use Rattle.sw_http_laws.proofs.Logs.{bytes_append, last_of, done_last}

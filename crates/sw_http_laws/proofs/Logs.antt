@@ -1,15 +1,15 @@
 -- What one entry more changes in what a log shows.
-use Rattle.std.proofs.Common.{◌≡◌, ℕ, ◌+◌, Bool, true, false, List, [], ◌∷◌, ◌++◌, length, take, refl, sym, ap, ◌∙◌, subst, arith, append_assoc, append-nil, ◌⊎◌, inl, inr, cond}
+use Rattle.std.proofs.Common.{◌≡◌, ℕ, ◌+◌, true, List, [], ◌∷◌, ◌++◌, length, refl, ap, ◌∙◌, arith, append-nil, ◌⊎◌, inl, inr}
 use Rattle.std.specs.Prelude.{◌==◌}
 use Rattle.std.specs.List.{concat}
 use Rattle.std.proofs.lemmas.List.Folds.{concat-append}
 use Rattle.sw_lists.specs.Lists.{collect, when}
-use Rattle.sw_lists.proofs.Lists.{collect-append, eq_same, eq_other, append_none}
-use Rattle.sw_record.specs.Dialogue.{MayFollow, DialogueAfter}
+use Rattle.sw_lists.proofs.Lists.{collect-append, eq_same, eq_other}
+use Rattle.sw_record.specs.Dialogue.{MayFollow}
 use Rattle.sw_record.specs.Logs.{of_session, event_of, events_of, told_of, packet_in, packets_in, Handled, EndsDone}
 use Rattle.sw_record.specs.Order.{ClosedLast}
 use Rattle.sw_record.specs.Terms.{numbered}
-use Rattle.sw_record.specs.Words.{Event, Connect, Packet, Closed, Finish, Task, Act, Send, Close, Reset, Bind, Exist, Info, TaskAct, FinishAct, Table, Stats, Shutdown, Done, Answer, Given, EventGiven, AnswerGiven, Log}
+use Rattle.sw_record.specs.Words.{Event, Connect, Packet, Closed, Finish, Task, Act, Send, Close, Reset, Bind, Exist, Info, TaskAct, FinishAct, Table, Stats, Shutdown, Done, Given, EventGiven, Log}
 use Rattle.sw_http_worker.specs.Serving.{is_done}
 use Rattle.sw_http_laws.specs.Inside.{contents, bytes_on}
 use Rattle.sw_http_laws.specs.Requests.{texts}

@@ -1,9 +1,8 @@
 -- One session: what its cutter was fed, and what the handler inside was given.
-use Rattle.std.proofs.Common.{◌≡◌, ℕ, ◌+◌, Bool, true, false, List, [], ◌∷◌, ◌++◌, length, Option, Some, None, refl, sym, ap, ◌∙◌, subst, arith, ◌⊎◌, inl, inr, true≢false}
-use Rattle.sw_lists.proofs.Lists.{eq_other}
-use Rattle.sw_record.specs.Logs.{told_of, packets_in, Handled}
+use Rattle.std.proofs.Common.{◌≡◌, ℕ, ◌+◌, true, false, List, [], ◌∷◌, ◌++◌, length, Option, Some, None, refl, sym, ap, ◌∙◌, subst, arith, ◌⊎◌, inl, true≢false}
+use Rattle.sw_record.specs.Logs.{packets_in, Handled}
 use Rattle.sw_record.specs.Terms.{numbered}
-use Rattle.sw_record.specs.Words.{Event, Packet, Act, EventGiven, Log}
+use Rattle.sw_record.specs.Words.{Packet, Act, EventGiven, Log}
 use Rattle.sw_http.specs.declared.next.HttpNext.TheVariants.{Request, More, TooLong, BadHead, Coded, BadLength}
 use Rattle.sw_http.specs.declared.next.HttpFault.{HttpFault}
 use Rattle.sw_http.specs.declared.next.HttpFault.TheVariants as faults
@@ -12,7 +11,7 @@ use Rattle.sw_http.specs.Calls.{Call, Feed, Answer, fed_in, given_in, with_reque
 use Rattle.sw_http_worker.specs.declared.serving.Serving.{Serving}
 use Rattle.sw_http_worker.specs.declared.serving.Doing.{Doing}
 use Rattle.sw_http_worker.specs.declared.serving.Doing.TheVariants as doings
-use Rattle.sw_http_worker.specs.Serving.{Acts, is_done, most, fresh, IsOver, with_piece, given_one, refused_for, Gives, GivesDone, WereGiven, Stops, StopsServing, StopsRefusing, StopsIdle, Serves}
+use Rattle.sw_http_worker.specs.Serving.{Acts, is_done, fresh, IsOver, with_piece, given_one, refused_for, Gives, WereGiven, Stops, Serves}
 use Rattle.sw_http_laws.specs.Inside.{Tells}
 use Rattle.sw_http_laws.specs.Requests.{texts}
 use Rattle.sw_http_laws.proofs.Logs as logs

@@ -1,15 +1,10 @@
 -- A handler round a handler, step by step, as one session sees it.
-use Rattle.std.proofs.Common.{◌≡◌, ℕ, ◌<◌, ◌≤◌, zero, suc, Bool, true, false, List, [], ◌∷◌, ◌++◌, length, take, Option, Some, None, refl, sym, ap, ◌∙◌, subst, arith, append_assoc, append-nil, ◌⊎◌, inl, inr, true≢false}
-use Rattle.std.proofs.lemmas.List.{take_all}
-use Rattle.sw_lists.specs.Lists.{collect}
+use Rattle.std.proofs.Common.{◌≡◌, ℕ, ◌<◌, zero, suc, true, false, List, [], ◌∷◌, ◌++◌, length, take, Option, Some, None, refl, sym, ap, ◌∙◌, subst, append_assoc, append-nil, ◌⊎◌, inl, inr}
 use Rattle.sw_lists.proofs.Lists.{equal_or_not, bool_cases}
 use Rattle.sw_record.specs.Dialogue.{MayFollow, DialogueAfter}
 use Rattle.sw_record.specs.Logs.{told_of, packets_in, Handled}
 use Rattle.sw_record.specs.Order.{ClosedLast}
 use Rattle.sw_record.specs.Words.{Event, Connect, Packet, Closed, Finish, Task, Act, Done, Answer, Given, EventGiven, AnswerGiven, Log}
-use Rattle.sw_http.specs.declared.next.HttpNext.TheVariants.{More}
-use Rattle.sw_http.specs.First.{HttpFirst}
-use Rattle.sw_http.specs.Cutting.{IsAnswer}
 use Rattle.sw_http.proofs.First.{in_nothing, first_more}
 use Rattle.sw_http.specs.Lines.{unscanned}
 use Rattle.sw_http_worker.specs.declared.serving.Serving.{Serving}
@@ -17,11 +12,11 @@ use Rattle.sw_http_worker.specs.declared.serving.Doing.{Doing}
 use Rattle.sw_http_worker.specs.declared.serving.Doing.TheVariants as doings
 use Rattle.sw_http_worker.specs.declared.worker.HttpWorker.{HttpWorker}
 use Rattle.sw_http_worker.specs.Serving.{Acts, is_done, fresh, with_piece, Serves}
-use Rattle.sw_http_worker.specs.Worker.{inner_of, max_of, doing_of, kept_of, serving_or, serving_of, Keeps, KeepsAll, Passes, ServesKept, GoesOn, OnEvent, ActsAlone, OnAnswer, OnGiven, Works, IsNew}
+use Rattle.sw_http_worker.specs.Worker.{inner_of, max_of, doing_of, kept_of, serving_or, serving_of, Keeps, KeepsAll, Passes, ServesKept, GoesOn, OnEvent, ActsAlone, OnAnswer, OnGiven, Works}
 use Rattle.std.specs.List.{concat}
 use Rattle.sw_http_laws.specs.Inside.{Tells, Follows, Ran, contents, bytes_on}
 use Rattle.sw_http_laws.proofs.Logs.{told_append, handled_none, bytes_packet, bytes_none, told, told_connect, told_packet, told_closed, other_connect, other_packet, other_closed, event_after, last_of, closed_is_last}
-use Rattle.sw_http_laws.proofs.Session.{IsServing, IsIdle, Phase, phase_idle, with_log, with_bytes, at_first, fed_more, HasStopped, served, other_serves, other_phase}
+use Rattle.sw_http_laws.proofs.Session.{IsServing, IsIdle, Phase, phase_idle, with_log, with_bytes, at_first, fed_more, served, other_serves, other_phase}
 
 -- ---- a session that is fresh has no request
 

@@ -19,15 +19,15 @@ ghost use Rattle.sw_http_laws.specs.Served.{IsWeb, IsServedBy, GivenInOrder, Giv
 
 use sw_handler::{Handler, Logged};
 
-/// In dispatch modes 2 and 4, where a link's pieces are its packets: of each session the handler inside was given requests that
-/// are cut from a beginning of what the link's pieces join to, in order, numbered from 0, each once.
+/// In dispatch modes 2 and 4, where a link's pieces are its packets: of each session the handler inside was given
+/// requests that are cut from a beginning of what the link's pieces join to, in order, numbered from 0, each once.
 pub fn requests_reach_the_handler_in_order<H: Handler>()
     ensures { (tell : H → Log) → Tells H.acts tell → (max : ℕ) (t : Terms) (shape : Shape) (r : Record) (out : Outside) (net : List LinkRecord) (s : ℕ) (l : LinkRecord) (w : HttpWorker H) →
         IsWeb t → Right t (LegalFor shape) r out net → IsServedBy H.acts tell max t r s l w → GivenInOrder tell max s l w }
 {}
 
-/// Once nothing is on its way any more, it was given all requests that are cut from the pieces that were dispatched, or as many as
-/// have numbers.
+/// Once nothing is on its way any more, it was given all requests that are cut from the pieces that were dispatched, or
+/// as many as have numbers.
 pub fn all_requests_reach_the_handler<H: Handler>()
     ensures { (tell : H → Log) → Tells H.acts tell → (max : ℕ) (t : Terms) (shape : Shape) (r : Record) (out : Outside) (net : List LinkRecord) (s : ℕ) (l : LinkRecord) (w : HttpWorker H) →
         IsWeb t → Right t (LegalFor shape) r out net → Drained t r → IsServedBy H.acts tell max t r s l w → GivenAll tell max t s l w }

@@ -1,5 +1,5 @@
-//! What a handler of whole HTTP requests was given, by the record of a run. No code: it joins what the record promises with what
-//! a handler round a handler does.
+//! What a handler of whole HTTP requests was given, by the record of a run. No code: it joins what the record promises
+//! with what a handler round a handler does.
 #![tactic(auto)]
 
 mod laws;

@@ -1,2 +1,2 @@
 pub mod Serves
-pub mod Keeping
+pub mod Going

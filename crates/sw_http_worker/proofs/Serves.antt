@@ -1,6 +1,6 @@
 -- Requests that are given one after the other.
 use Rattle.std.proofs.Common.{◌≡◌, ℕ, ◌+◌, List, [], ◌∷◌, ◌++◌, refl, sym, subst, ◌∙◌, ap}
-use Rattle.std.specs.Prelude.{Bool, true, Result, Ok, Err, IfOk}
+use Rattle.std.specs.Prelude.{true, Result, Ok, Err, IfOk}
 use Rattle.sw_base.specs.declared.out_of_memory.OutOfMemory.{OutOfMemory}
 use Rattle.sw_data.specs.declared.acts.Act.{Act}
 use Rattle.sw_data.specs.declared.acts.Act.TheVariants.{Send}

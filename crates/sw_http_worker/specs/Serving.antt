@@ -1,5 +1,5 @@
 -- How the requests of one session are given to the handler inside.
-use Rattle.std.specs.Prelude.{◌≡◌, ◌⊎◌, ℕ, ◌+◌, ◌<◌, List, [], ◌∷◌, Bool, true, false, Option, None}
+use Rattle.std.specs.Prelude.{◌≡◌, ◌⊎◌, ℕ, ◌+◌, ◌<◌, List, [], ◌∷◌, Bool, true, false, None}
 use Rattle.sw_data.specs.declared.acts.Act.{Act}
 use Rattle.sw_data.specs.declared.acts.Act.TheVariants.{Send, Close, Reset, Bind, Exist, Info, Task, Finish, Table, Stats, Shutdown, Done}
 use Rattle.sw_data.specs.declared.events.Event.TheVariants as events

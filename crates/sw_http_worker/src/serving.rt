@@ -1,7 +1,7 @@
 //! One session: its requests are given to the handler one after the other.
 
 ghost use Rattle.std.specs.Prelude.{◌≡◌, ◌+◌, ◌<◌, OnOk, OnErr, IfOk};
-ghost use Rattle.sw_http_worker.specs.Serving.{is_done, step_behind, fresh, with_piece, IsOpen, Gives, Steps, Serves};
+ghost use Rattle.sw_http_worker.specs.Serving.{is_done, step_behind, fresh, with_piece, Gives, Steps, Serves};
 ghost use Rattle.sw_http_worker.specs.Refusal.{refusal_text};
 ghost use Rattle.sw_data.specs.declared.acts.Act.{Act};
 
@@ -159,8 +159,9 @@ impl Serving {
         }
     }
 
-    /// Gives the handler one request after the other as long as it is done at once. Then the act is its own, or a refusal where a
-    /// fault stands in place of a request, or Done where no request is whole or no number is left for one.
+    /// Gives the handler one request after the other as long as it is done at once. Then the act is its own, or a
+    /// refusal where a fault stands in place of a request, or Done where no request is whole or no number is left for
+    /// one.
     pub fn serve<H: Handler>(
         &mut self,
         alloc: Global,

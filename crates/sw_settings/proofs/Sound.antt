@@ -13,7 +13,7 @@ use Rattle.sw_settings.specs.declared.checks.Check.{Check}
 use Rattle.sw_settings.specs.declared.checks.Check.TheVariants as checks
 use Rattle.sw_settings.specs.declared.keys.Rule.{Rule}
 use Rattle.sw_settings.specs.declared.faults.SettingsFault.{SettingsFault}
-use Rattle.sw_settings.specs.declared.faults.SettingsFault.TheVariants.{BadType, Missing, Conflict}
+use Rattle.sw_settings.specs.declared.faults.SettingsFault.TheVariants.{BadType, Missing}
 use Rattle.sw_settings.specs.Keys.{rule_of}
 use Rattle.sw_settings.specs.Checks.{fails, fails_by, earlier, first_behind, first_key}
 use Rattle.sw_settings.specs.Given.{given, truth_of, number_of, keeps, keeps_set, text_or, text_of, MeetsRule}

@@ -1,5 +1,5 @@
 use Rattle.std.proofs.Common.{refl, sym, ◌∙◌}
-use Rattle.sw_http_worker.proofs.Keeping.{done_ok, busy}
+use Rattle.sw_http_worker.proofs.Going.{done_ok, busy}
 use Rattle.sw_http_worker.proofs.worker.HttpWorker.answered.Goals as goal
 
 pub returns-then-is_done-clause-acts : goal.returns-then-is_done-clause-acts
