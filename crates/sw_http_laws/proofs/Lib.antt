@@ -3,3 +3,4 @@ pub mod Logs
 pub mod Session
 pub mod Standing
 pub mod Link
+pub mod Runs

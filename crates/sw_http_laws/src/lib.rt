@@ -6,5 +6,5 @@ mod laws;
 
 pub use laws::{
     all_requests_reach_the_handler, cut_requests_begin_all, logged_handlers_tell,
-    requests_reach_the_handler_in_order,
+    logged_workers_have_run, new_workers_have_run, requests_reach_the_handler_in_order,
 };
