@@ -12,7 +12,7 @@ fn put_case(alloc: Global, out: &mut String, case: &Case) -> Result<(), OutOfMem
     writeln!(out, "\ncase {}", case.name)?;
     let (kind, words) = case.kind.split_once(" ").unwrap_or((case.kind, ""));
     match kind {
-        "script" => script::put(alloc, out, case),
+        "script" => script::put(alloc, out, case, words),
         "http" => http::put(alloc, out, case, words),
         "rules" => script::put_rules(alloc, out, case),
         _ => Ok(out.push_str("no such kind\n")?),

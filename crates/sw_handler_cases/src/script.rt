@@ -7,10 +7,11 @@ use std::alloc::Global;
 use sw_base::OutOfMemory;
 use sw_data::Given;
 use sw_handler::Handler;
+use sw_http_worker::HttpWorker;
 use sw_log_text::put_entry;
 use sw_script::{Script, ScriptFault, read};
 use sw_scripted::Scripted;
-use sw_text::number;
+use sw_text::{number, number_within};
 
 /// What a handler is given, as a text.
 fn given(alloc: Global, text: &str) -> Result<Option<Given>, OutOfMemory> {
@@ -55,13 +56,12 @@ fn script_of(alloc: Global, case: &Case) -> Result<String, OutOfMemory> {
 }
 
 /// Gives the handler each of the lines, and prints what it was given and did.
-fn put_acts(
+fn put_acts<H: Handler>(
     alloc: Global,
     out: &mut String,
-    script: Script,
+    handler: &mut H,
     case: &Case,
 ) -> Result<(), OutOfMemory> {
-    let mut handler = Scripted::new(script);
     for line in &case.lines {
         if let Some(text) = line.strip_prefix("+ ") {
             match given(alloc, text)? {
@@ -76,11 +76,29 @@ fn put_acts(
     Ok(())
 }
 
+/// Follows the script: as it is, or where the words are `http MAX` inside a handler of HTTP requests of at most so many bytes.
+fn put_followed(
+    alloc: Global,
+    out: &mut String,
+    script: Script,
+    case: &Case,
+    words: &str,
+) -> Result<(), OutOfMemory> {
+    let mut handler = Scripted::new(script);
+    let Some(digits) = words.strip_prefix("http ") else {
+        return put_acts(alloc, out, &mut handler, case);
+    };
+    match number_within(digits.as_bytes(), 1, 18_446_744_073_709_551_615) {
+        None => Ok(out.push_str("no most bytes\n")?),
+        Some(max) => put_acts(alloc, out, &mut HttpWorker::new(alloc, handler, max), case),
+    }
+}
+
 /// Plays the case: `script`, with lines of the script and of what the handler is given.
-pub fn put(alloc: Global, out: &mut String, case: &Case) -> Result<(), OutOfMemory> {
+pub fn put(alloc: Global, out: &mut String, case: &Case, words: &str) -> Result<(), OutOfMemory> {
     let text = script_of(alloc, case)?;
     match read(alloc, text.as_bytes()) {
-        Ok(script) => put_acts(alloc, out, script.copy()?, case),
+        Ok(script) => put_followed(alloc, out, script.copy()?, case, words),
         Err(ScriptFault::BadLine(n)) => Ok(writeln!(out, "line {n} is out of the grammar")?),
         Err(ScriptFault::OutOfMemory) => Err(OutOfMemory),
     }

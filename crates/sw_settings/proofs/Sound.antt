@@ -16,7 +16,7 @@ use Rattle.sw_settings.specs.declared.faults.SettingsFault.{SettingsFault}
 use Rattle.sw_settings.specs.declared.faults.SettingsFault.TheVariants.{BadType, Missing}
 use Rattle.sw_settings.specs.Keys.{rule_of}
 use Rattle.sw_settings.specs.Checks.{fails, fails_by, earlier, first_behind, first_key}
-use Rattle.sw_settings.specs.Given.{given, truth_of, text_or, text_of, MeetsRule}
+use Rattle.sw_settings.specs.Given.{given, truth_of, number_of, keeps, keeps_set, text_or, text_of, MeetsRule}
 use Rattle.sw_settings.specs.Values.{IsWithin}
 use Rattle.sw_settings.specs.Faults.{unknown_fault, type_fault, out_of_range, range_fault, missing_fault, conflict_fault, from_missing, from_range, from_type, pairs_fault}
 
@@ -34,6 +34,7 @@ record NoFault (ps : List Pair) : Type 0 where
   pub kind : type_fault ps ≡ None
   pub range : range_fault ps ≡ None
   pub missing : missing_fault ps ≡ None
+  pub conflict : conflict_fault ps ≡ None
 
 no_fault : (ps : List Pair) → pairs_fault ps ≡ None → NoFault ps
 no_fault ps e =
@@ -41,7 +42,7 @@ no_fault ps e =
     let second = or_none (type_fault ps) (from_range ps) first.1 in
     let third = or_none (range_fault ps) (from_missing ps) second.1 in
     let fourth = or_none (missing_fault ps) (conflict_fault ps) third.1 in
-    record { kind = second.0; range = third.0; missing = fourth.0 }
+    record { kind = second.0; range = third.0; missing = fourth.0; conflict = fourth.1 }
 
 no_kind : (ps : List Pair) → type_fault ps ≡ None → first_key checks.Kind ps ≡ None
 unfolding type_fault
@@ -138,3 +139,31 @@ set_by ps e split (Some t) is = mark_fits ps e t is
 -- where packets end at a mark, there is one, and it has 1 to 8 bytes
 pub mark_is_set : (ps : List Pair) → pairs_fault ps ≡ None → truth_of (codes "open_eof_split") ps ≡ true → IsSomeAnd (text_of (codes "package_eof") ps) (λ mark. IsWithin 1 8 (length mark))
 mark_is_set ps e split = set_by ps e split (text_of (codes "package_eof") ps) refl
+
+-- ---- whole requests
+
+record IsFree (http kept split check : Bool) : Type 0 where
+  pub kept_is : kept ≡ true
+  pub split_is : split ≡ false
+  pub check_is : check ≡ false
+
+free_by : (http kept split check : Bool) (a b c d : SettingsFault) → http ≡ true
+    → cond (http && not kept) (Some a) (cond (split && http) (Some b) (cond (split && check) (Some c) (cond (http && check) (Some d) None))) ≡ None → IsFree http kept split check
+free_by false kept split check a b c d is e = absurd (true≢false (sym is))
+free_by true false split check a b c d is e = cc
+free_by true true true check a b c d is e = cc
+free_by true true false true a b c d is e = cc
+free_by true true false false a b c d is e = record { kept_is = refl; split_is = refl; check_is = refl }
+
+-- what holds where they are given
+pub record IsHttpFit (ps : List Pair) : Type 0 where
+  pub kept : keeps (number_of (codes "dispatch_mode") ps) ≡ true
+  pub unmarked : truth_of (codes "open_eof_split") ps ≡ false
+  pub uncounted : truth_of (codes "open_length_check") ps ≡ false
+
+-- whole requests are given only where they may be
+pub http_fits : (ps : List Pair) → pairs_fault ps ≡ None → truth_of (codes "open_http_protocol") ps ≡ true → IsHttpFit ps
+unfolding conflict_fault keeps_set
+http_fits ps e http =
+    let free = free_by (truth_of (codes "open_http_protocol") ps) (keeps_set ps) (truth_of (codes "open_eof_split") ps) (truth_of (codes "open_length_check") ps) _ _ _ _ http (no_fault ps e).conflict in
+    record { kept = free.kept_is; unmarked = free.split_is; uncounted = free.check_is }

@@ -1,5 +1,5 @@
 -- The first refusal that applies.
-use Rattle.std.specs.Prelude.{◌≡◌, ℕ, List, codes, ◌&&◌, is_none, Option, Some, None, Result, Ok, Err, ◌⊎◌, if◌then◌else◌}
+use Rattle.std.specs.Prelude.{◌≡◌, ℕ, List, codes, ◌&&◌, not, is_none, Option, Some, None, Result, Ok, Err, ◌⊎◌, if◌then◌else◌}
 use Rattle.std.specs.Option.{option_map, option_or}
 use Rattle.sw_column.specs.declared.column.Column.{Column}
 use Rattle.sw_call.specs.declared.column_texts.Refused.{Refused}
@@ -14,7 +14,7 @@ use Rattle.sw_settings.specs.declared.faults.SettingsFault.TheVariants.{Unknown,
 use Rattle.sw_settings.specs.Keys.{rule_of}
 use Rattle.sw_settings.specs.Columns.{columns_named}
 use Rattle.sw_settings.specs.Checks.{first_key}
-use Rattle.sw_settings.specs.Given.{truth_of, text_of}
+use Rattle.sw_settings.specs.Given.{truth_of, keeps_set, text_of}
 use Rattle.sw_settings.specs.Values.{values_of}
 
 -- ---- each reason, at the first key in byte order that has it
@@ -47,10 +47,13 @@ missing_fault ps =
     else if truth_of (codes "open_length_check") ps && is_none (text_of (codes "package_length_type") ps) then Some (Missing (codes "package_length_type"))
     else None
 
--- packets can't be cut in both ways
+-- whole requests are given only where a connection has one worker, and packets can't be cut in two ways
 unfoldable pub conflict_fault : List Pair → Option SettingsFault
 conflict_fault ps =
-    if truth_of (codes "open_eof_split") ps && truth_of (codes "open_length_check") ps then Some (Conflict (codes "open_eof_split") (codes "open_length_check"))
+    if truth_of (codes "open_http_protocol") ps && not (keeps_set ps) then Some (Conflict (codes "dispatch_mode") (codes "open_http_protocol"))
+    else if truth_of (codes "open_eof_split") ps && truth_of (codes "open_http_protocol") ps then Some (Conflict (codes "open_eof_split") (codes "open_http_protocol"))
+    else if truth_of (codes "open_eof_split") ps && truth_of (codes "open_length_check") ps then Some (Conflict (codes "open_eof_split") (codes "open_length_check"))
+    else if truth_of (codes "open_http_protocol") ps && truth_of (codes "open_length_check") ps then Some (Conflict (codes "open_http_protocol") (codes "open_length_check"))
     else None
 
 abbrev pub column_refused : Result (List Column) Refused → Option SettingsFault

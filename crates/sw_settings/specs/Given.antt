@@ -1,5 +1,5 @@
 -- What pairs set a key to.
-use Rattle.std.specs.Prelude.{◌≡◌, ℕ, ◌≤◌, ◌<◌, List, [], ◌∷◌, Bool, true, false, Option, Some, None, if◌then◌else◌, ℤ, pos, negsuc}
+use Rattle.std.specs.Prelude.{◌≡◌, ℕ, ◌≤◌, ◌<◌, ◌==◌, List, [], ◌∷◌, codes, Bool, true, false, Option, Some, None, if◌then◌else◌, ℤ, pos, negsuc}
 use Rattle.std.specs.Str.{bytes_eq}
 use Rattle.sw_settings.specs.declared.pair.SetValue.{SetValue}
 use Rattle.sw_settings.specs.declared.pair.SetValue.TheVariants as values
@@ -49,6 +49,14 @@ number_by _ v = 0
 
 unfoldable pub number_of : List ℕ → List Pair → ℕ
 number_of name ps = number_by (rule_of name) (given name ps)
+
+-- dispatch modes 2 and 4 keep each connection at one worker
+abbrev pub keeps : ℕ → Bool
+keeps mode = if mode == 2 then true else mode == 4
+
+-- the dispatch mode that is set does so
+unfoldable pub keeps_set : List Pair → Bool
+keeps_set ps = keeps (number_of (codes "dispatch_mode") ps)
 
 -- ---- a text: the pair's value where there is one, and else none
 

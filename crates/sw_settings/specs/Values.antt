@@ -1,12 +1,12 @@
 -- What each key is set to by pairs, and what holds of that.
-use Rattle.std.specs.Prelude.{◌≡◌, ℕ, ◌≤◌, List, [], codes, length, true, Option, IsSomeAnd}
+use Rattle.std.specs.Prelude.{◌≡◌, ℕ, ◌≤◌, List, [], codes, length, true, false, Option, IsSomeAnd}
 use Rattle.std.specs.Option.{unwrap_or}
 use Rattle.sw_text.specs.Then.{◌>>=◌}
 use Rattle.sw_frame_len.specs.declared.rule.Letter.{Letter}
 use Rattle.sw_settings.specs.declared.pair.Pair.{Pair}
 use Rattle.sw_settings.specs.declared.values.Values.{Values}
 use Rattle.sw_settings.specs.Keys.{letter_of}
-use Rattle.sw_settings.specs.Given.{truth_of, number_of, text_of}
+use Rattle.sw_settings.specs.Given.{truth_of, number_of, text_of, keeps}
 
 abbrev pub length_type : List Pair → Option Letter
 length_type ps = text_of (codes "package_length_type") ps >>= letter_of
@@ -22,6 +22,7 @@ values_of ps = record {
   max_conn = number_of (codes "max_conn") ps;
   max_request = number_of (codes "max_request") ps;
   open_eof_split = truth_of (codes "open_eof_split") ps;
+  open_http_protocol = truth_of (codes "open_http_protocol") ps;
   open_length_check = truth_of (codes "open_length_check") ps;
   package_body_offset = number_of (codes "package_body_offset") ps;
   package_eof = text_of (codes "package_eof") ps;
@@ -44,7 +45,14 @@ values_of ps = record {
 abbrev pub IsWithin : ℕ → ℕ → ℕ → Type 0
 IsWithin least most n = (least ≤ n) × (n ≤ most)
 
--- each number is in its key's range, and where packets end at a mark there is one of 1 to 8 bytes
+-- whole HTTP requests may be given: each connection has one worker, and its bytes aren't cut in another way
+pub record IsForHttp (v : Values) : Type 0 where
+  pub kept : keeps v.dispatch_mode ≡ true
+  pub unmarked : v.open_eof_split ≡ false
+  pub uncounted : v.open_length_check ≡ false
+
+-- each number is in its key's range, where packets end at a mark there is one of 1 to 8 bytes, and whole requests are given only
+-- where they may be
 pub record IsSound (v : Values) : Type 0 where
   pub dispatch_mode : IsWithin 1 5 v.dispatch_mode
   pub generation_num : IsWithin 1 64 v.generation_num
@@ -62,3 +70,4 @@ pub record IsSound (v : Values) : Type 0 where
   pub task_worker_num : v.task_worker_num ≤ 64
   pub worker_num : IsWithin 1 64 v.worker_num
   pub marked : v.open_eof_split ≡ true → IsSomeAnd v.package_eof (λ mark. IsWithin 1 8 (length mark))
+  pub http : v.open_http_protocol ≡ true → IsForHttp v

@@ -21,7 +21,7 @@ impl fmt::Display for SettingsFault {
             }
             SettingsFault::Missing(key) => write!(f, "{} must be set", shown(key)),
             SettingsFault::Conflict(key, other) => {
-                write!(f, "{} and {} can't both be true", shown(key), shown(other))
+                write!(f, "{} and {} don't go together", shown(key), shown(other))
             }
             SettingsFault::Column(name, fault) => {
                 write!(f, "the column {} is refused: {fault:?}", shown(name))

@@ -6,7 +6,7 @@ ghost use Rattle.sw_settings.specs.Checks.{first_key};
 ghost use Rattle.sw_settings.specs.Faults.{unknown_fault, type_fault, range_fault, out_of_range, missing_fault, conflict_fault, pairs_fault, core_fault, from_type, from_range, from_missing};
 
 use crate::checks::{Check, first_key};
-use crate::given::{text, truth};
+use crate::given::{keeps_set, text, truth};
 use crate::keys::{Rule, rule_of};
 use crate::pair::Pair;
 use std::alloc::Global;
@@ -27,7 +27,7 @@ pub enum SettingsFault {
     Range(Key, u64, u64),
     /// This key has to be set where another one is true.
     Missing(Key),
-    /// These two can't both be true.
+    /// These two are set to what doesn't go together.
     Conflict(Key, Key),
     /// A schema refuses this column, the first one, for a reason that isn't `OutOfMemory`.
     Column(Name, ColumnFault),
@@ -116,14 +116,33 @@ fn missing_fault(alloc: Global, pairs: &[Pair]) -> Result<Option<SettingsFault>,
     Ok(None)
 }
 
+/// The refusal of two keys that are set to what doesn't go together.
+fn conflict(alloc: Global, name: &str, other: &str) -> Result<Option<SettingsFault>, OutOfMemory>
+    ensures { IfOk result (λ f. f ≡ Some (SettingsFault.Conflict name.now other.now)) }
+{
+    let name = key(alloc, name)?;
+    let other = key(alloc, other)?;
+    Ok(Some(SettingsFault::Conflict(name, other)))
+}
+
 #[tactic(auto, unfolding(crate::specs::Faults::conflict_fault))]
 fn conflict_fault(alloc: Global, pairs: &[Pair]) -> Result<Option<SettingsFault>, OutOfMemory>
     ensures { IfOk result (λ f. f ≡ conflict_fault pairs.now) }
 {
-    if truth(pairs, "open_eof_split") && truth(pairs, "open_length_check") {
-        let split = key(alloc, "open_eof_split")?;
-        let check = key(alloc, "open_length_check")?;
-        return Ok(Some(SettingsFault::Conflict(split, check)));
+    let split = truth(pairs, "open_eof_split");
+    let http = truth(pairs, "open_http_protocol");
+    let check = truth(pairs, "open_length_check");
+    if http && !keeps_set(pairs) {
+        return conflict(alloc, "dispatch_mode", "open_http_protocol");
+    }
+    if split && http {
+        return conflict(alloc, "open_eof_split", "open_http_protocol");
+    }
+    if split && check {
+        return conflict(alloc, "open_eof_split", "open_length_check");
+    }
+    if http && check {
+        return conflict(alloc, "open_http_protocol", "open_length_check");
     }
     Ok(None)
 }

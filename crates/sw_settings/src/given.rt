@@ -4,7 +4,7 @@ ghost use Rattle.std.specs.Prelude.{◌≡◌, ◌≤◌, IfSome, Some, None, Bo
 ghost use Rattle.std.specs.Option.{option_copied};
 ghost use Rattle.sw_settings.specs.Keys.{rule_of};
 ghost use Rattle.sw_settings.specs.Checks.{in_bounds};
-ghost use Rattle.sw_settings.specs.Given.{given, truth_in, truth_or, truth_of, natural, natural_in, natural_or, number_by, number_of, text_in, text_or, text_of, InBounds, IsSmall, MeetsRule};
+ghost use Rattle.sw_settings.specs.Given.{given, truth_in, truth_or, truth_of, natural, natural_in, natural_or, number_by, number_of, keeps, keeps_set, text_in, text_or, text_of, InBounds, IsSmall, MeetsRule};
 ghost use Rattle.sw_settings.specs.Faults.{pairs_fault};
 
 use crate::keys::{Rule, rule_of};
@@ -113,6 +113,33 @@ pub fn small(pairs: &[Pair], name: &str) -> u32
     ensures bounds { InBounds (rule_of name.now) result }
 {
     number(pairs, name) as u32
+}
+
+fn keeps_number(n: i128) -> bool
+    ensures { result ≡ keeps (natural n) }
+{
+    n == 2 || n == 4
+}
+
+fn keeps_value(value: &SetValue) -> bool
+    ensures { result ≡ keeps (natural_in value.now) }
+{
+    match value {
+        SetValue::Number(n) => keeps_number(*n),
+        SetValue::Truth(_) => false,
+        SetValue::Text(_) => false,
+    }
+}
+
+/// Whether the dispatch mode keeps each connection at one worker, as its default does.
+#[tactic(auto, unfolding(crate::specs::Given::keeps_set, crate::specs::Given::number_of, crate::specs::Keys::rule_of))]
+pub fn keeps_set(pairs: &[Pair]) -> bool
+    ensures { result ≡ keeps_set pairs.now }
+{
+    match given(pairs, "dispatch_mode".as_bytes()) {
+        None => true,
+        Some(value) => keeps_value(value),
+    }
 }
 
 fn text_in(value: &SetValue) -> Option<&Octets>

@@ -33,12 +33,13 @@ macro_rules! number {
 }
 
 /// Each key with its rule, in byte order.
-pub const KEYS: [(&str, Rule); 22] = [
+pub const KEYS: [(&str, Rule); 23] = [
     ("dispatch_mode", number!(1 to 5, default 2)),
     ("generation_num", number!(1 to 64, default 1)),
     ("max_conn", number!(1 to 65_536, default 1_024)),
     ("max_request", number!(0 to 4_294_967_295, default 0)),
     ("open_eof_split", Rule::Truth),
+    ("open_http_protocol", Rule::Truth),
     ("open_length_check", Rule::Truth),
     ("package_body_offset", number!(0 to 65_535, default 0)),
     ("package_eof", Rule::Text { least: 1, most: 8 }),

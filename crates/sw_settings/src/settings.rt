@@ -1,9 +1,10 @@
 //! What a server is set to.
 
-ghost use Rattle.std.specs.Prelude.{◌≡◌, ◌≤◌, length, IfOk, IfErr, IfSome, None};
+ghost use Rattle.std.specs.Prelude.{◌≡◌, ◌≤◌, length, IfOk, IfErr, IfSome, IsTrue, true, None};
 ghost use Rattle.std.specs.Option.{option_copied};
 ghost use Rattle.sw_frame.specs.Cut.{IsFit};
 ghost use Rattle.sw_settings.specs.Columns.{columns_named};
+ghost use Rattle.sw_settings.specs.Given.{keeps};
 ghost use Rattle.sw_settings.specs.Values.{values_of, IsWithin};
 ghost use Rattle.sw_settings.specs.Faults.{fault_of, IsRefusal};
 ghost use Rattle.sw_settings.specs.Framings.{framing_of};
@@ -103,6 +104,17 @@ impl Settings {
         ensures { result ≡ self.now.open_eof_split }
     {
         self.values.open_eof_split
+    }
+
+    /// Whether workers' handlers are given whole HTTP requests. Then the dispatch mode is 2 or 4, and the bytes aren't cut in
+    /// another way.
+    #[tactic(auto, unfolding(crate::specs::Framings::framing_of))]
+    pub fn open_http_protocol(&self) -> bool
+        ensures value { result ≡ self.now.open_http_protocol }
+        ensures kept { IsTrue result → keeps self.now.dispatch_mode ≡ true }
+        ensures raw { IsTrue result → framing_of self.now ≡ Framing.Raw }
+    {
+        self.values.open_http_protocol
     }
 
     /// Whether packets name their length in a field.

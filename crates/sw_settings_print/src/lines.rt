@@ -46,7 +46,7 @@ fn mark_text(mark: Option<&Octets>) -> &[u8]
 }
 
 /// Each key with what is shown for it, in byte order.
-pub fn lines(settings: &Settings) -> [(&'static str, Shown<'_>); 22]
+pub fn lines(settings: &Settings) -> [(&'static str, Shown<'_>); 23]
     ensures { map seen result ≡ lines settings.now }
 {
     use Shown::{Number, Text, Truth};
@@ -56,6 +56,7 @@ pub fn lines(settings: &Settings) -> [(&'static str, Shown<'_>); 22]
         ("max_conn", Number(settings.max_conn() as u64)),
         ("max_request", Number(settings.max_request() as u64)),
         ("open_eof_split", Truth(settings.open_eof_split())),
+        ("open_http_protocol", Truth(settings.open_http_protocol())),
         ("open_length_check", Truth(settings.open_length_check())),
         (
             "package_body_offset",

@@ -11,6 +11,7 @@ returns c = λ i. (codes "dispatch_mode", decimal (c.dispatch_mode.ensures.value
     ∷ (codes "max_conn", decimal (c.max_conn.ensures.value i))
     ∷ (codes "max_request", decimal (c.max_request.ensures i))
     ∷ (codes "open_eof_split", truth_text (c.open_eof_split.ensures i))
+    ∷ (codes "open_http_protocol", truth_text (c.open_http_protocol.ensures.value i))
     ∷ (codes "open_length_check", truth_text (c.open_length_check.ensures i))
     ∷ (codes "package_body_offset", decimal (c.package_body_offset.ensures.value i))
     ∷ (codes "package_eof", text_text ((c.mark_text.ensures ∙ ap mark_text c.package_eof.ensures) i))

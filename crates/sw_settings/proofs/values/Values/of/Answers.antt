@@ -1,8 +1,9 @@
-use Rattle.std.proofs.Common.{length, sym, ◌∙◌, subst}
+use Rattle.std.proofs.Common.{length, sym, ap, ◌∙◌, subst}
 use Rattle.std.specs.Prelude.{List, ℕ, Option, IsSomeAnd}
 use Rattle.sw_settings.specs.Keys.{rule_of}
+use Rattle.sw_settings.specs.Given.{keeps}
 use Rattle.sw_settings.specs.Values.{values_of, IsWithin}
-use Rattle.sw_settings.proofs.Sound.{mark_is_set}
+use Rattle.sw_settings.proofs.Sound.{mark_is_set, http_fits}
 use Rattle.sw_settings.proofs.values.Values.of.Goals as goal
 
 pub returns-clause-value : goal.returns-clause-value
@@ -13,7 +14,8 @@ returns-clause-value c = λ i. record {
   max_conn = c.small-3.ensures.value i;
   max_request = c.small-4.ensures.value i;
   open_eof_split = c.truth.ensures i;
-  open_length_check = c.truth-2.ensures i;
+  open_http_protocol = c.truth-2.ensures i;
+  open_length_check = c.truth-3.ensures i;
   package_body_offset = c.small-5.ensures.value i;
   package_eof = c.in_ok-package_eof.ensures i;
   package_length_offset = c.small-6.ensures.value i;
@@ -51,4 +53,11 @@ returns-clause-sound c = record {
   task_worker_num = c.small-13.ensures.bounds.1;
   worker_num = c.small-14.ensures.bounds;
   marked = λ split. subst (λ (o : Option (List ℕ)). IsSomeAnd o (λ mark. IsWithin 1 8 (length mark))) (sym c.in_ok-package_eof.ensures) (mark_is_set c.args.pairs.now c.requires (sym c.truth.ensures ∙ split));
+  http = λ http.
+      let fit = http_fits c.args.pairs.now c.requires (sym c.truth-2.ensures ∙ http) in
+      record {
+        kept = ap keeps c.small.ensures.value ∙ fit.kept;
+        unmarked = c.truth.ensures ∙ fit.unmarked;
+        uncounted = c.truth-3.ensures ∙ fit.uncounted;
+      };
 }
