@@ -40,27 +40,27 @@ passed acts (Stepped x ∷ xs) a b n (m, (w, rest)) = still_passed acts (collect
 
 -- the tables' handlers behind one entry, or none
 pub data Lined (limit : ℕ) (f g : Hand) : Type 0 where
-  Same : g.log ≡ f.log → g.gone ≡ f.gone → g.events ≡ f.events → g.left ≡ f.left → Lined limit f g
-  More : (a : Answer) (act : Act) → g.log ≡ f.log ++ (AnswerGiven a, act) ∷ [] → g.gone ≡ f.gone → g.events ≡ f.events → g.left ≡ f.left → Lined limit f g
-  Next : (e : Event) (act : Act) → g.log ≡ f.log ++ (EventGiven e, act) ∷ [] → g.gone ≡ (if is_due limit f then f.gone ++ f.current ∷ [] else f.gone) → g.events ≡ (if is_due limit f then 1 else f.events + 1) → g.left ≡ (if is_due limit f then f.left - 1 else f.left) → Lined limit f g
+  Same : g.log ≡ f.log → g.current ≡ f.current → g.gone ≡ f.gone → g.events ≡ f.events → g.left ≡ f.left → Lined limit f g
+  More : (a : Answer) (act : Act) → g.log ≡ f.log ++ (AnswerGiven a, act) ∷ [] → g.current ≡ f.current ++ (AnswerGiven a, act) ∷ [] → g.gone ≡ f.gone → g.events ≡ f.events → g.left ≡ f.left → Lined limit f g
+  Next : (e : Event) (act : Act) → g.log ≡ f.log ++ (EventGiven e, act) ∷ [] → g.current ≡ (if is_due limit f then (EventGiven e, act) ∷ [] else f.current ++ (EventGiven e, act) ∷ []) → g.gone ≡ (if is_due limit f then f.gone ++ f.current ∷ [] else f.gone) → g.events ≡ (if is_due limit f then 1 else f.events + 1) → g.left ≡ (if is_due limit f then f.left - 1 else f.left) → Lined limit f g
 
 pub moved_line : (t : Terms) (y : ActorId) (c : ℕ) (a b : Stage) (f g : Hand) → Moved t y c a f b g → Lined c f g
-moved_line t y c a b f g (Waits st h) = Same refl refl refl refl
-moved_line t y c a b f g (Answers h e act after an next m s k) = More an next refl refl refl refl
-moved_line t y c a b f g (Aims h e act after to m an k n r) = Same refl refl refl refl
-moved_line t y c a b f g (Sends h e act to m an next) = More an next refl refl refl refl
-moved_line t y c a b f g (Fulls h e d x to m an after next) = More _ next refl refl refl refl
-moved_line t y c a b f g (Hears h from e act k) = Next e act refl refl refl refl
-moved_line t y c a b f g (Skips h from m k) = Same refl refl refl refl
-moved_line t y c a b f g (Overs h e k) = Same refl refl refl refl
-moved_line t y c a b f g (Leaves h e to m k) = Same refl refl refl refl
-moved_line t y c a b f g (Lefts h e to m) = Same refl refl refl refl
-moved_line t y c a b f g (Stops h) = Same refl refl refl refl
-moved_line t y c a b f g (Nones h) = Same refl refl refl refl
-moved_line t y c a b f g (SkipStops h from m k) = Same refl refl refl refl
-moved_line t y c a b f g (SkipNones h from m k) = Same refl refl refl refl
-moved_line t y c a b f g (Nexts h j) = Same refl refl refl refl
-moved_line t y c a b f g (Lasts h j) = Same refl refl refl refl
+moved_line t y c a b f g (Waits st h) = Same refl refl refl refl refl
+moved_line t y c a b f g (Answers h e act after an next m s k) = More an next refl refl refl refl refl
+moved_line t y c a b f g (Aims h e act after to m an k n r) = Same refl refl refl refl refl
+moved_line t y c a b f g (Sends h e act to m an next) = More an next refl refl refl refl refl
+moved_line t y c a b f g (Fulls h e d x to m an after next) = More _ next refl refl refl refl refl
+moved_line t y c a b f g (Hears h from e act k) = Next e act refl refl refl refl refl
+moved_line t y c a b f g (Skips h from m k) = Same refl refl refl refl refl
+moved_line t y c a b f g (Overs h e k) = Same refl refl refl refl refl
+moved_line t y c a b f g (Leaves h e to m k) = Same refl refl refl refl refl
+moved_line t y c a b f g (Lefts h e to m) = Same refl refl refl refl refl
+moved_line t y c a b f g (Stops h) = Same refl refl refl refl refl
+moved_line t y c a b f g (Nones h) = Same refl refl refl refl refl
+moved_line t y c a b f g (SkipStops h from m k) = Same refl refl refl refl refl
+moved_line t y c a b f g (SkipNones h from m k) = Same refl refl refl refl refl
+moved_line t y c a b f g (Nexts h j) = Same refl refl refl refl refl
+moved_line t y c a b f g (Lasts h j) = Same refl refl refl refl refl
 
 -- what stands behind the same beginning
 pub cancel : {A : Type 0} (xs ys zs : List A) → xs ++ ys ≡ xs ++ zs → ys ≡ zs
@@ -75,7 +75,7 @@ pub record Counts {H : Type 0} (limit gone events left : ℕ) (l : Line H) : Typ
   pub events_are : l.events ≡ min events limit
   pub few : (limit ≡ 0) ⊎ ((left ≡ 0) ⊎ (events ≤ limit))
 
-counts_of : {H : Type 0} (limit : ℕ) (g : Hand) (l : Line H) → LineIs limit g l → Counts limit (length g.gone) g.events g.left l
+pub counts_of : {H : Type 0} (limit : ℕ) (g : Hand) (l : Line H) → LineIs limit g l → Counts limit (length g.gone) g.events g.left l
 counts_of limit g l k = record { most = k.most; at = k.at; left_is = k.left; events_are = k.events; few = k.few }
 
 line_of : {H : Type 0} (limit gone events left : ℕ) (g : Hand) (l : Line H) → length g.gone ≡ gone → g.events ≡ events → g.left ≡ left → Counts limit gone events left l → LineIs limit g l
@@ -92,7 +92,7 @@ acted : {H : Type 0} (acts : Acting H) (limit gone events left : ℕ) (l k : Lin
 acted acts limit gone events left l k g act (old, (new, (there, does, q))) c = subst (Counts limit gone events left) (sym q) (record { most = c.most; at = c.at; left_is = length-set l.items l.at new ∙ c.left_is; events_are = c.events_are; few = c.few })
 
 -- another handler is due in the code where it is in the tables
-due_by : {H : Type 0} (limit gone events left : ℕ) (l : Line H) (u v w : Bool) → Counts limit gone events left l → (limit == 0) ≡ u → (events == limit) ≡ v → ltb 0 left ≡ w → line_due l ≡ (if u then false else if v then w else false)
+pub due_by : {H : Type 0} (limit gone events left : ℕ) (l : Line H) (u v w : Bool) → Counts limit gone events left l → (limit == 0) ≡ u → (events == limit) ≡ v → ltb 0 left ≡ w → line_due l ≡ (if u then false else if v then w else false)
 due_by limit gone events left l true v w c p q r = ap (λ n. if n == 0 then false else if l.events == n then nat_lt (l.at + 1) (length l.items) else false) c.most ∙ ap (λ b. if b then false else if l.events == limit then nat_lt (l.at + 1) (length l.items) else false) p
 due_by limit gone events left l false true true c p q r =
     let e : l.events ≡ limit = (let a : events ≡ limit = grind (arith, nat_tests) in omega (arith, c.events_are, a)) in
@@ -130,7 +130,7 @@ heard_line {H} limit gone events left l false c q due few = subst (λ (x : Line 
     pick false p = record { most = c.most; at = c.at; left_is = c.left_is; events_are = (let a : l.most ≤ l.events = grind (arith, nat_tests) in omega (arith, a, c.events_are, c.most)); few = few refl }
 
 -- when another handler is due, and when none is
-due_then : (limit events left : ℕ) (u v w : Bool) → (limit == 0) ≡ u → (events == limit) ≡ v → ltb 0 left ≡ w → (if u then false else if v then w else false) ≡ true → (¬ (limit ≡ 0)) × (¬ (left ≡ 0))
+pub due_then : (limit events left : ℕ) (u v w : Bool) → (limit == 0) ≡ u → (events == limit) ≡ v → ltb 0 left ≡ w → (if u then false else if v then w else false) ≡ true → (¬ (limit ≡ 0)) × (¬ (left ≡ 0))
 due_then limit events left false true true p q r e = (grind (arith, nat_tests), grind (arith, nat_tests))
 due_then limit events left true v w p q r e = absurd (cc)
 due_then limit events left false false w p q r e = absurd (cc)
@@ -149,18 +149,18 @@ gone_length true xs x = length_append xs (x ∷ [])
 gone_length false xs x = refl
 
 -- one entry alone
-one_passed : {H : Type 0} (acts : Acting H) (es : Log) (e : Given × Act) (x y : H) → es ≡ e ∷ [] → Passed acts es x y → acts x e.0 e.1 y
+pub one_passed : {H : Type 0} (acts : Acting H) (es : Log) (e : Given × Act) (x y : H) → es ≡ e ∷ [] → Passed acts es x y → acts x e.0 e.1 y
 one_passed acts es e x y q h = let k = subst (λ (l : Log). Passed acts l x y) q h in subst (acts x e.0 e.1) (sym k.1.1) k.1.0
 
 pub line_turn : {H : Type 0} (acts : Acting H) (limit : ℕ) (f g : Hand) (l k : Line H) (gave : Log) → LineIs limit f l → Lined limit f g → g.log ≡ f.log ++ gave → Passed (Acts acts) gave l k → LineIs limit g k
-line_turn {H} acts limit f g l k gave is (Same a b c d) q h =
+line_turn {H} acts limit f g l k gave is (Same a cur b c d) q h =
     let none : [] ≡ gave = cancel f.log [] gave (append-nil f.log ∙ sym a ∙ q) in
     let same : k ≡ l = subst (λ (es : Log). Passed (Acts acts) es l k) (sym none) h in
     line_of limit (length f.gone) f.events f.left g k (ap length b) c d (subst (Counts limit (length f.gone) f.events f.left) (sym same) (counts_of limit f l is))
-line_turn {H} acts limit f g l k gave is (More a act b c d e) q h =
+line_turn {H} acts limit f g l k gave is (More a act b cur c d e) q h =
     let one : gave ≡ (AnswerGiven a, act) ∷ [] = cancel f.log gave ((AnswerGiven a, act) ∷ []) (sym q ∙ b) in
     line_of limit (length f.gone) f.events f.left g k (ap length c) d e (acted acts limit (length f.gone) f.events f.left l k (AnswerGiven a) act (one_passed (Acts acts) gave (AnswerGiven a, act) l k one h) (counts_of limit f l is))
-line_turn {H} acts limit f g l k gave is (Next ev act b c d e) q h =
+line_turn {H} acts limit f g l k gave is (Next ev act b cur c d e) q h =
     let one : gave ≡ (EventGiven ev, act) ∷ [] = cancel f.log gave ((EventGiven ev, act) ∷ []) (sym q ∙ b) in
     let v : Bool = is_due limit f in
     let u : Counts limit (length f.gone) f.events f.left l = counts_of limit f l is in

@@ -6,5 +6,5 @@ mod turns;
 
 pub use turns::{
     code_makes_the_familys_turns, handlers_follow_one_another, sessions_stay_numbered,
-    task_workers_start_so, workers_start_so,
+    task_workers_start_so, task_workers_tell_their_log, workers_start_so, workers_tell_their_log,
 };

@@ -1,5 +1,6 @@
 //! A turn of the code beside a turn of the family. The functions do nothing: their clauses are the theorems.
-ghost use Rattle.std.specs.Prelude.{◌≡◌, ℕ, ◌+◌, ◌≤◌, List, length};
+ghost use Rattle.std.specs.Prelude.{◌≡◌, ℕ, ◌+◌, ◌≤◌, List, length, map};
+ghost use Rattle.sw_lists.specs.Lists.{collect};
 ghost use Rattle.sw_step.specs.declared.actor.ActorId.{ActorId};
 ghost use Rattle.sw_step.specs.declared.actor.ActorId.TheVariants.{Worker, Tasker};
 ghost use Rattle.sw_base.specs.declared.table.Value.{Value};
@@ -10,6 +11,7 @@ ghost use Rattle.sw_port_book.specs.Plain.{Words};
 ghost use Rattle.sw_port_board.specs.PlainBoard.{PlainWords};
 ghost use Rattle.sw_table_laws.specs.Table.{Shape};
 ghost use Rattle.sw_tmodel.specs.Plain.{PlainTable};
+ghost use Rattle.sw_record.specs.Words.{Log};
 ghost use Rattle.sw_record.specs.Terms.{Terms};
 ghost use Rattle.sw_past.specs.Routes.{IsHand as IsHandOf};
 ghost use Rattle.sw_world_ports.specs.Calls.{Did};
@@ -24,12 +26,14 @@ ghost use Rattle.sw_hand_calls.specs.Calls.{PortCall, AreMade, around, turn_call
 ghost use Rattle.sw_worker.specs.Generations.{Line, Acts};
 ghost use Rattle.sw_worker.specs.Worker.{started as worker_started};
 ghost use Rattle.sw_tasker.specs.Tasker.{started as tasker_started};
+ghost use Rattle.sw_hand_laws.specs.Hand.{Hand};
+ghost use Rattle.sw_hand_laws.specs.Generations.{entries, Generations};
 ghost use Rattle.sw_hand_laws.specs.Keeps.{Carries};
 ghost use Rattle.sw_hand_laws.specs.Kept.{GotFits};
 ghost use Rattle.sw_hand_fits.specs.Matches.{HouseFits, IsNumberedStage, IsNumberedGot};
 ghost use Rattle.sw_world_hands.specs.Hands.{HandState, Crews, new_hand, hand_got};
 ghost use Rattle.sw_world_hand_fits.specs.Plain.{plain_rules, Stands};
-ghost use Rattle.sw_world_hand_fits.specs.Hands.{world_got, HandIs, TaskerIs, WorkerIs, Gone, Went, Numbered, Numbers};
+ghost use Rattle.sw_world_hand_fits.specs.Hands.{world_got, HandIs, TaskerIs, WorkerIs, Gone, Went, Numbered, Numbers, Tells, LineTells};
 
 use sw_handler::Handler;
 
@@ -76,4 +80,26 @@ pub fn sessions_stay_numbered<H: Handler, L, K>()
         Numbers H.acts → GotFits t s.stage (hand_got got) → IsNumberedGot (hand_got got) → Numbered s.stage →
         AreMade (plain_rules H.acts) calls (around h b q o) (around k f u r) →
         (gone : Gone t limit y number s got k ask calls dids) → Numbered gone.state.stage }
+{}
+
+/// Where handlers tell what they were given and did, a worker's handlers tell its log, one behind the other, and a turn keeps
+/// that.
+pub fn workers_tell_their_log<H: Handler, L, K>()
+    ensures keeps { (told : H → Log) (t : Terms) (crews : Crews) (y : ActorId) (number : K → ℕ) (s : HandState)
+        (got : WorldGot) (h k : CodeHand (Line H)) (b f : Words) (q u : PlainTable) (o r : PlainWords) (ask : Ask (Msg L K))
+        (calls : List PortCall) (dids : List Did) → Tells told H.acts → WorkerIs t crews y h s →
+        LineTells told s.hand h.handler → GotFits t s.stage (hand_got got) →
+        AreMade (plain_rules (Acts H.acts)) calls (around h b q o) (around k f u r) →
+        (gone : Gone t crews.limit y number s got k ask calls dids) → LineTells told gone.state.hand k.handler }
+    ensures log { (told : H → Log) (limit num : ℕ) (g : Hand) (l : Line H) → LineTells told g l →
+        Generations limit num g → g.log ≡ collect entries (map told l.items) }
+{}
+
+/// Where a task worker's handler tells what it was given and did, that is the log, and a turn keeps that.
+pub fn task_workers_tell_their_log<T: Handler, L, K>()
+    ensures { (told : T → Log) (t : Terms) (limit : ℕ) (y : ActorId) (number : K → ℕ) (s : HandState) (got : WorldGot)
+        (h k : CodeHand T) (b f : Words) (q u : PlainTable) (o r : PlainWords) (ask : Ask (Msg L K)) (calls : List PortCall)
+        (dids : List Did) → Tells told T.acts → told h.handler ≡ s.hand.log →
+        AreMade (plain_rules T.acts) calls (around h b q o) (around k f u r) →
+        (gone : Gone t limit y number s got k ask calls dids) → told k.handler ≡ gone.state.hand.log }
 {}
