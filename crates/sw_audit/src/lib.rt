@@ -11,7 +11,7 @@ mod reading;
 mod trace;
 mod verdict;
 
-pub use audit_text::audit;
+pub use audit_text::{audit, final_state};
 pub use judging::judge;
 pub use printing::print;
 pub use reading::{read, reading_is_exact};
