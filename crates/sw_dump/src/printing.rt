@@ -1,12 +1,12 @@
-//! Columns and rows as a text.
+//! Columns, rows and Sets of them as a text.
 ghost use Rattle.std.specs.Prelude.{◌≡◌, ◌++◌, codes, IfOk, OnOk, string_bytes};
 ghost use Rattle.std.specs.Fmt.{decimal};
 ghost use Rattle.std.specs.List.{flat_map};
 ghost use Rattle.sw_tmodel.specs.Dumps.{pair_of};
-ghost use Rattle.sw_dump.specs.Texts.{value_text, spaced_value, values_text, row_line, kind_text, column_text, comma_column, columns_text, head_line};
+ghost use Rattle.sw_dump.specs.Texts.{value_text, spaced_value, values_text, row_line, kind_text, column_text, comma_column, columns_text, head_line, pair_text, set_text, call_text, reply_text, set_words, set_line_of};
 
 use std::alloc::{AllocError, Global};
-use sw_base::{Octets, OutOfMemory, Value};
+use sw_base::{Call, Name, Octets, OutOfMemory, Pairs, Reply, Value};
 use sw_column::{Column, Kind, Schema};
 use sw_text::{put_hex, put_number, put_signed};
 use sw_tmodel::DumpRow;
@@ -69,11 +69,11 @@ fn kind_word(kind: Kind) -> &'static str
     }
 }
 
-fn put_digits(alloc: Global, out: &mut Octets, n: u32) -> Result<(), OutOfMemory>
+fn put_digits(alloc: Global, out: &mut Octets, n: u64) -> Result<(), OutOfMemory>
     ensures { OnOk result (out.new ≡ out.old ++ decimal n) }
 {
     let mut digits = String::new(alloc);
-    put_number(&mut digits, n as u64)?;
+    put_number(&mut digits, n)?;
     out.extend(digits.as_bytes())
 }
 
@@ -84,7 +84,7 @@ fn put_column(alloc: Global, out: &mut Octets, column: &Column) -> Result<(), Ou
     out.extend(b":")?;
     out.extend(kind_word(column.kind).as_bytes())?;
     out.extend(b":")?;
-    put_digits(alloc, out, column.size)
+    put_digits(alloc, out, column.size as u64)
 }
 
 fn put_comma(alloc: Global, out: &mut Octets, column: &Column) -> Result<(), OutOfMemory>
@@ -128,10 +128,83 @@ pub fn put_head(
     ensures { OnOk result (out.new ≡ out.old ++ head_line word.now size percent schema.now) }
 {
     out.extend(word.as_bytes())?;
-    put_digits(alloc, out, size)?;
+    put_digits(alloc, out, size as u64)?;
     out.extend(b" ")?;
-    put_digits(alloc, out, percent)?;
+    put_digits(alloc, out, percent as u64)?;
     out.extend(b" ")?;
     put_columns(alloc, out, schema.columns())?;
+    out.extend(b"\n")
+}
+
+/// ` NAME=VALUE`.
+fn put_pair(alloc: Global, out: &mut Octets, pair: &(Name, Value)) -> Result<(), OutOfMemory>
+    ensures { OnOk result (out.new ≡ out.old ++ pair_text pair.now) }
+{
+    let mut value = String::new(alloc);
+    put_value(&mut value, &pair.1)?;
+    out.extend(b" ")?;
+    out.extend(pair.0.bytes())?;
+    out.extend(b"=")?;
+    out.extend(value.as_bytes())
+}
+
+fn put_pairs(alloc: Global, out: &mut Octets, pairs: &[(Name, Value)]) -> Result<(), OutOfMemory>
+    ensures { OnOk result (out.new ≡ out.old ++ flat_map pair_text pairs.now) }
+{
+    for pair in pairs {
+        put_pair(alloc, out, pair)?;
+    }
+    Ok(())
+}
+
+fn put_set(alloc: Global, out: &mut Octets, key: &[u8], pairs: &Pairs) -> Result<(), OutOfMemory>
+    ensures { OnOk result (out.new ≡ out.old ++ set_text key.now pairs.now) }
+{
+    let mut digits = String::new(alloc);
+    put_hex(&mut digits, key)?;
+    out.extend(b"set ")?;
+    out.extend(digits.as_bytes())?;
+    put_pairs(alloc, out, pairs.as_slice())
+}
+
+fn put_call(alloc: Global, out: &mut Octets, call: &Call) -> Result<(), OutOfMemory>
+    ensures { OnOk result (out.new ≡ out.old ++ call_text call.now) }
+{
+    match call {
+        Call::Set(key, pairs) => put_set(alloc, out, key.bytes(), pairs),
+        _ => Ok(()),
+    }
+}
+
+fn reply_word(reply: Reply) -> &'static str
+    ensures { result.now ≡ reply_text reply }
+{
+    match reply {
+        Reply::Full => "full",
+        _ => "stored",
+    }
+}
+
+fn put_set_words(alloc: Global, out: &mut Octets, at: u64, call: &Call, reply: Reply) -> Result<(), OutOfMemory>
+    ensures { OnOk result (out.new ≡ out.old ++ set_words at call.now reply) }
+{
+    put_digits(alloc, out, at)?;
+    out.extend(b" 0 ")?;
+    put_call(alloc, out, call)?;
+    out.extend(b" > ")?;
+    out.extend(reply_word(reply).as_bytes())
+}
+
+/// The line of a Set by caller 0, at its place and with its reply.
+pub fn put_set_line(
+    alloc: Global,
+    out: &mut Octets,
+    at: u64,
+    call: &Call,
+    reply: Reply,
+) -> Result<(), OutOfMemory>
+    ensures { OnOk result (out.new ≡ out.old ++ set_line_of at call.now reply) }
+{
+    put_set_words(alloc, out, at, call, reply)?;
     out.extend(b"\n")
 }
