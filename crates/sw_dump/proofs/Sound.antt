@@ -1,6 +1,6 @@
 -- The answer of a restore is the trace of its Sets, and an audit of it is Ok.
 use Rattle.std.proofs.Common.{◌≡◌, ℕ, ◌<◌, ◌≤◌, List, [], ◌∷◌, ◌++◌, length, Option, Some, None, Result, Ok, Err, refl, ap, sym, ◌∙◌, subst, arith}
-use Rattle.std.specs.Prelude.{codes, All}
+use Rattle.std.specs.Prelude.{codes, All, IfOk}
 use Rattle.std.specs.Fmt.{decimal}
 use Rattle.std.specs.List.{AllByRecursion}
 use Rattle.std.proofs.lemmas.List.Elements.{recursion_from_All}
@@ -14,9 +14,10 @@ use Rattle.sw_audit.specs.declared.verdict.AuditFault.{AuditFault}
 use Rattle.sw_audit.specs.Grammar.{head_of, table_text, without_lines, trace_of}
 use Rattle.sw_audit.specs.Verdicts.{IsAudit, IsAuditOf}
 use Rattle.sw_dump.specs.declared.refill.Refill.{Refill}
+use Rattle.sw_dump.specs.declared.fault.RestoreFault.{RestoreFault}
 use Rattle.sw_dump.specs.Texts.{columns_text}
 use Rattle.sw_dump.specs.Grammar.{refill_of}
-use Rattle.sw_dump.specs.Restores.{restored, restored_text, IsFit, IsSound}
+use Rattle.sw_dump.specs.Restores.{restored, restored_text, IsFit, IsRestoredBy, IsSound}
 use Rattle.sw_dump.proofs.Cuts.{Without, without-append, without_front}
 use Rattle.sw_dump.proofs.Heads.{tail_of, head_is, head_again}
 use Rattle.sw_dump.proofs.Sets.{without_test}
@@ -47,3 +48,8 @@ is_sound text out r is fit made few =
     let read : head_of (first r.into) ≡ Some r.into = subst (λ (t : Trace). head_of (first t) ≡ Some t) (sym m.into) (first_read m.line m.table m.read) in
     let back : trace_of out ≡ Ok (restored r) = ap trace_of made ∙ trace_back r (ap (λ (t : Trace). t.lines) m.into) m.sets fits (omega (arith, few)) plain read in
     (r, (is, (back, subst (λ (t : Result Trace ℕ). IsAuditOf t (Ok (verdicts.Ok (length r.calls)))) (sym back) (is_verdict r m.sets))))
+
+-- the same of whatever was answered
+pub sound_if : (text : List ℕ) (r : Refill) (result : Result (List ℕ) RestoreFault) → refill_of text ≡ Ok r → IsRestoredBy (Ok r) result → IfOk result (λ _. length r.calls ≤ 8796093022207) → IfOk result (IsSound text)
+sound_if text r (Ok out) is restored few = is_sound text out r is restored.0 restored.1 few
+sound_if text r (Err fault) is restored few = tt

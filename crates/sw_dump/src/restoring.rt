@@ -1,7 +1,5 @@
 //! A dump restored: the trace of its Sets on another Table.
-ghost use Rattle.std.specs.Prelude.{◌≡◌, IfOk, All, None, Ok};
-ghost use Rattle.sw_base.specs.declared.table.Call.{Call};
-ghost use Rattle.sw_column.specs.Fit.{call_fault};
+ghost use Rattle.std.specs.Prelude.{◌≡◌, ◌≤◌, IfOk, Ok, length};
 ghost use Rattle.sw_dump.specs.Restores.{IsRestored, IsRestoredBy, IsFit, IsRefill, IsSound, restored_text};
 
 use crate::fault::RestoreFault;
@@ -21,7 +19,8 @@ const MOST_CALLS: u64 = 8_796_093_022_207;
 fn trace_text(alloc: Global, refill: Refill) -> Result<Octets, OutOfMemory>
     requires refill { IsRefill refill }
     requires fit { IsFit refill }
-    ensures { IfOk result (λ text. text ≡ restored_text refill) }
+    ensures text { IfOk result (λ text. text ≡ restored_text refill) }
+    ensures few { IfOk result (λ _. length refill.calls ≤ 8796093022207) }
 {
     let calls = refill.calls;
     let into = refill.into;
@@ -45,7 +44,8 @@ fn trace_text(alloc: Global, refill: Refill) -> Result<Octets, OutOfMemory>
 /// What a restore that was read comes to.
 fn restored(alloc: Global, refill: Refill) -> Result<Octets, RestoreFault>
     requires { IsRefill refill }
-    ensures { IsRestoredBy (Ok refill) result }
+    ensures restored { IsRestoredBy (Ok refill) result }
+    ensures few { IfOk result (λ _. length refill.calls ≤ 8796093022207) }
 {
     match first_unfit(&refill.into.schema, refill.calls.as_slice())? {
         Some((line, name)) => Err(RestoreFault::Unfit(line, name)),

@@ -5,7 +5,7 @@ ghost use Rattle.sw_base.specs.declared.table.Call.{Call};
 ghost use Rattle.sw_column.specs.Fit.{call_fault};
 ghost use Rattle.sw_dump.specs.Restores.{TakesBefore, IsFirstRefused, IsRefusedFor, IsUnfitIn, IsSet};
 
-use sw_base::{Call, Name, OutOfMemory, Pairs};
+use sw_base::{Call, Key, Name, OutOfMemory, Pairs};
 use sw_column::Schema;
 
 use crate::fitting::takes_pair;
@@ -24,17 +24,27 @@ fn first_refused(schema: &Schema, pairs: &Pairs) -> Option<usize>
     None
 }
 
-/// The name of the first column for which the columns refuse a Set, if they do.
+/// The name of the first column for which the columns refuse a Set of these pairs, if they do.
+fn refused_in(schema: &Schema, key: &Key, pairs: &Pairs) -> Result<Option<Name>, OutOfMemory>
+    requires { IsSet (Call.Set key.now pairs.now) }
+    ensures none { IfOk result (λ name. IfNone name (call_fault schema.now (Call.Set key.now pairs.now) ≡ None)) }
+    ensures some { IfOk result (λ name. IfSome name (IsRefusedFor schema.now (Call.Set key.now pairs.now))) }
+{
+    let _ = key;
+    match first_refused(schema, pairs) {
+        None => Ok(None),
+        Some(at) => Ok(Some(pairs.get(at).0.copy()?)),
+    }
+}
+
+/// The same of a call.
 fn refused_for(schema: &Schema, call: &Call) -> Result<Option<Name>, OutOfMemory>
     requires { IsSet call.now }
     ensures none { IfOk result (λ name. IfNone name (call_fault schema.now call.now ≡ None)) }
     ensures some { IfOk result (λ name. IfSome name (IsRefusedFor schema.now call.now)) }
 {
     match call {
-        Call::Set(_, pairs) => match first_refused(schema, pairs) {
-            None => Ok(None),
-            Some(at) => Ok(Some(pairs.get(at).0.copy()?)),
-        },
+        Call::Set(key, pairs) => refused_in(schema, key, pairs),
         _ => Ok(None),
     }
 }
