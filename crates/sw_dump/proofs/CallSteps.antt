@@ -14,6 +14,7 @@ use Rattle.sw_column.specs.declared.column.Column.{Column}
 use Rattle.sw_column.specs.Fit.{call_fault, pairs_fault, at_column, or_else, is_key}
 use Rattle.sw_column.specs.Columns.{column_of}
 use Rattle.sw_table_laws.specs.Table.{Shape, State, TStep}
+use Rattle.sw_tmodel.specs.Plain.{PlainTable, shape_of}
 use Rattle.sw_dump.specs.Texts.{set_line, set_line_of}
 use Rattle.sw_dump.specs.Restores.{made_from, Takes, TakesBefore, FitBefore, IsSet}
 
@@ -46,10 +47,10 @@ pub all_fit : (cs : List Column) (calls : List Call) (at : ℕ) → length calls
 all_fit cs calls at le before i d lt = before i (get_or calls i d) (omega (arith, le, lt)) (slice_get-get_or calls i d lt)
 
 pub none_yet : (cs : List Column) (calls : List Call) → FitBefore cs calls 0
-none_yet cs calls i c lt is = omega (arith, lt)
+none_yet cs calls i c lt is = absurd (omega (arith, lt))
 
 pub none_taken : (cs : List Column) (pairs : List (List ℕ × Value)) → TakesBefore cs pairs 0
-none_taken cs pairs i p lt is = omega (arith, lt)
+none_taken cs pairs i p lt is = absurd (omega (arith, lt))
 
 -- ---- one more line
 
@@ -63,9 +64,19 @@ line_more t calls at n s c out more total lt is made so_far =
     ap (λ (xs : List ℕ). xs ++ rest) made ∙ append_assoc out (set_line_of n c (TStep t s c).reply) rest
     ∙ ap (λ (cs : List Call). out ++ flat_map set_line (made_from t n s cs)) (sym here) ∙ so_far
 
+-- the same after a call that a plain Table made
+pub made_more : (p0 p q : PlainTable) (calls : List Call) (at : ℕ) (c : Call) (out more total : List ℕ) → at < length calls → c ≡ get_or calls at c → shape_of p ≡ shape_of p0
+    → q ≡ record p { calls = p.calls + 1; state = (TStep (shape_of p) p.state c).state } → more ≡ out ++ set_line_of p.calls c (TStep (shape_of p) p.state c).reply
+    → out ++ flat_map set_line (made_from (shape_of p0) p.calls p.state (drop at calls)) ≡ total → more ++ flat_map set_line (made_from (shape_of p0) q.calls q.state (drop (at + 1) calls)) ≡ total
+made_more p0 p q calls at c out more total lt is same next made so_far =
+    let line : more ≡ out ++ set_line_of p.calls c (TStep (shape_of p0) p.state c).reply = made ∙ ap (λ (t : Shape). out ++ set_line_of p.calls c (TStep t p.state c).reply) same in
+    ap (λ (x : PlainTable). more ++ flat_map set_line (made_from (shape_of p0) x.calls x.state (drop (at + 1) calls))) next
+    ∙ ap (λ (t : Shape). more ++ flat_map set_line (made_from (shape_of p0) (p.calls + 1) (TStep t p.state c).state (drop (at + 1) calls))) same
+    ∙ line_more (shape_of p0) calls at p.calls p.state c out more total lt is line so_far
+
 pub lines_done : (t : Shape) (calls : List Call) (at n : ℕ) (s : State) (out total : List ℕ) → length calls ≤ at → out ++ flat_map set_line (made_from t n s (drop at calls)) ≡ total → out ≡ total
 unfolding made_from
 lines_done t calls at n s out total le so_far =
-    let none = drop_all calls at le in
+    let none = drop_all at calls le in
     let end : out ++ flat_map set_line (made_from t n s []) ≡ total = rw none at so_far in
     sym (append-nil out) ∙ end

@@ -33,10 +33,10 @@ equal xs ys e = let d = bytes_eq-Decides xs ys in d.0 e
 
 kind_by : (a b c : Bool) (text : List ℕ) (k : Kind) → bytes_eq text (codes "int") ≡ a → bytes_eq text (codes "string") ≡ b → bytes_eq text (codes "float") ≡ c
     → cond a (Some Int) (cond b (Some Text) (cond c (Some Float) None)) ≡ Some k → text ≡ kind_text k
-kind_by true b c text k is no non e = let f : Int ≡ k = cc in equal text (codes "int") is ∙ ap kind_text f
-kind_by false true c text k is no non e = let f : Text ≡ k = cc in equal text (codes "string") no ∙ ap kind_text f
-kind_by false false true text k is no non e = let f : Float ≡ k = cc in equal text (codes "float") non ∙ ap kind_text f
-kind_by false false false text k is no non e = absurd cc
+kind_by true b c text k is nay non e = let f : Int ≡ k = cc in equal text (codes "int") is ∙ ap kind_text f
+kind_by false true c text k is nay non e = let f : Text ≡ k = cc in equal text (codes "string") nay ∙ ap kind_text f
+kind_by false false true text k is nay non e = let f : Float ≡ k = cc in equal text (codes "float") non ∙ ap kind_text f
+kind_by false false false text k is nay non e = absurd cc
 
 kind_is : (text : List ℕ) (k : Kind) → kind_of text ≡ Some k → text ≡ kind_text k
 kind_is text k e = kind_by (bytes_eq text (codes "int")) (bytes_eq text (codes "string")) (bytes_eq text (codes "float")) text k refl refl refl e
@@ -56,7 +56,7 @@ number_is least most text n e =
     subst (λ (k : ℕ). IsWithin least most text k) b.2 ((is_written text m.0 m.1).0, ltb-false m.0 least b.0, ltb-false most m.0 b.1)
 
 in_colons : (c : Column) (text front back word digits : List ℕ) → text ≡ front ++ 58 ∷ back → back ≡ word ++ 58 ∷ digits → front ≡ c.name → word ≡ kind_text c.kind → digits ≡ decimal c.size → text ≡ column_text c
-in_colons c text front back word digits a b name kind size = rw (a, b, name, kind, size) refl
+in_colons c text front back word digits a b name kind size = rw (a, b, name, kind, size) (simp append_assoc)
 
 column_is : (text : List ℕ) (c : Column) → column_read text ≡ Some c → text ≡ column_text c
 unfolding column_read

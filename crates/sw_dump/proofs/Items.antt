@@ -19,9 +19,6 @@ unfolding pieces_of
 piece_last sep [] w = refl
 piece_last sep (b ∷ bs) w = let other : eqb b sep ≡ false = ne_eqb b sep w.0 in rw (other, piece_last sep bs w.1) refl
 
-abbrev behind : ℕ → List ℕ → List ℕ
-behind sep q = sep ∷ q
-
 -- the pieces with a separator between each two are the text
 abbrev pub IsJoined : ℕ → List ℕ → List (List ℕ) → Type 0
 IsJoined sep text [] = ⊥
@@ -67,4 +64,4 @@ each_back {A} f [] xs (y ∷ ys) e = absurd e
 each_back {A} f (l ∷ ls) xs [] e = absurd e
 each_back {A} f (l ∷ ls) xs (y ∷ ys) e =
     let rest = each_back f ls (xs ++ y ∷ []) ys e.1 in
-    rw e.0 (rest ∙ ap (λ (zs : List A). Some zs) (append_assoc xs (y ∷ []) ys))
+    ap (λ (o : Option A). items_read f (with_next xs o) ls) e.0 ∙ rest ∙ ap (λ (zs : List A). Some zs) (append_assoc xs (y ∷ []) ys)

@@ -12,7 +12,7 @@ use Rattle.sw_column.specs.Fit.{call_fault}
 use Rattle.sw_table_laws.specs.Table.{Shape, State, TStep}
 use Rattle.sw_audit.specs.declared.trace.Trace.{Trace}
 use Rattle.sw_audit.specs.declared.trace.TraceLine.{TraceLine}
-use Rattle.sw_audit.specs.Grammar.{line_of, lines_read, lines_trace, trace_of, numbered, head_of}
+use Rattle.sw_audit.specs.Grammar.{line_of, lines_read, lines_trace, trace_of, numbered, with_line, head_of}
 use Rattle.sw_audit.specs.Verdicts.{table_of}
 use Rattle.sw_dump.specs.declared.refill.Refill.{Refill}
 use Rattle.sw_dump.specs.Texts.{head_line, set_words, set_line, columns_text}
@@ -30,7 +30,7 @@ all_read [] (x ∷ es) n t e = absurd e
 all_read (l ∷ ls) [] n t e = absurd e
 all_read (l ∷ ls) (x ∷ es) n t e =
     let more : lines_read (n + 1) (Ok (record t { lines = t.lines ++ x ∷ [] })) ls ≡ Ok (record t { lines = (t.lines ++ x ∷ []) ++ es }) = all_read ls es (n + 1) (record t { lines = t.lines ++ x ∷ [] }) e.1 in
-    rw e.0 (more ∙ ap (λ (xs : List TraceLine). Ok (record t { lines = xs })) (append_assoc t.lines (x ∷ []) es))
+    ap (λ (o : Option TraceLine). lines_read (n + 1) (numbered n (with_line t o)) ls) e.0 ∙ more ∙ ap (λ (xs : List TraceLine). Ok (record t { lines = xs })) (append_assoc t.lines (x ∷ []) es)
 
 -- ---- the lines of Sets
 

@@ -1,6 +1,6 @@
 -- What holds of every restore that was read.
 use Rattle.std.proofs.Common.{◌≡◌, ℕ, ◌+◌, ◌<◌, ◌≤◌, Bool, true, false, cond, List, [], ◌∷◌, ◌++◌, map, length, Option, Some, None, Result, Ok, Err, refl, ap, sym, ◌∙◌, subst, eqb, arith, ℤ, All}
-use Rattle.std.specs.Prelude.{codes, is_some, if◌then◌else◌}
+use Rattle.std.specs.Prelude.{codes, is_some, IfOk, if◌then◌else◌}
 use Rattle.std.specs.List.{AllByRecursion}
 use Rattle.std.proofs.lemmas.List.Elements.{All-from_recursion}
 use Rattle.sw_text.specs.Then.{◌>>=◌}
@@ -11,6 +11,7 @@ use Rattle.sw_text.proofs.AgreeLaw.{signed, bytes}
 use Rattle.sw_text.proofs.LineLaw.{are_lines}
 use Rattle.sw_base.specs.declared.table.Value.{Value}
 use Rattle.sw_base.specs.declared.table.Value.TheVariants.{Int, Text}
+use Rattle.sw_base.specs.declared.out_of_memory.OutOfMemory.{OutOfMemory}
 use Rattle.sw_base.specs.declared.table.Call.{Call}
 use Rattle.sw_column.specs.declared.column.Column.{Column}
 use Rattle.sw_column.specs.Columns.{is_name, place}
@@ -105,7 +106,7 @@ row_fits cs line r e =
     let vs = first_of (values_for cs (cut_at 32 rest.0).1) (λ (values : List Value). Some (key.0, values)) r key.2 in
     let same : (key.0, vs.0) ≡ r = let f = vs.2 in cc in
     let k = key_fits (cut_at 32 rest.0).0 key.0 key.1 in
-    subst IsRow same (k.0, (k.1, values_fit cs (cut_at 32 rest.0).1 vs.0 vs.1))
+    subst IsRow same (k.0, k.1, values_fit cs (cut_at 32 rest.0).1 vs.0 vs.1)
 
 risen_by : (t : Bool) (r q : List ℕ × List Value) → cond t (Some r) None ≡ Some q → r ≡ q
 risen_by true r q e = cc
@@ -149,7 +150,7 @@ all_kept new (c ∷ cs) (v ∷ vs) named are = kept_fits (is_some (place new c.n
 
 all_sets : (new old : List Column) (rows : List (List ℕ × List Value)) → AreNamed old → AreRows rows → AllByRecursion IsSet (map (set_of new old) rows)
 all_sets new old [] named are = tt
-all_sets new old (r ∷ rows) named are = ((are.0.0, (are.0.1, all_kept new old r.1 named are.0.2)), all_sets new old rows named are.1)
+all_sets new old (r ∷ rows) named are = ((are.0.0, are.0.1, all_kept new old r.1 named are.0.2), all_sets new old rows named are.1)
 
 -- ---- the whole text
 
@@ -199,10 +200,16 @@ pub is_made : (text : List ℕ) (r : Refill) → refill_of text ≡ Ok r → IsM
 is_made text r e = let lines = are_lines text in by_lines (lines_of text) r lines.0 e
 
 no_trace : (t : ℕ × ℕ × List Column) → 1 ≤ t.0 → t.0 ≤ 524288 → t.1 ≤ 100 → IsTrace (bare t)
-no_trace t least most percent = (least, (most, (percent, All-from_recursion (λ (e : TraceLine). call_fault t.2 e.call ≡ None) [] tt)))
+no_trace t least most percent = (least, most, percent, All-from_recursion (λ (e : TraceLine). call_fault t.2 e.call ≡ None) [] tt)
 
 pub is_refill : (text : List ℕ) (r : Refill) → refill_of text ≡ Ok r → IsRefill r
 is_refill text r e =
     let m = is_made text r e in
     let h = head_is (codes "into") m.line m.table m.read in
-    (subst IsTrace (sym m.into) (no_trace m.table h.least h.most h.percent), (ap (λ (t : Trace). t.lines) m.into, m.sets))
+    (subst IsTrace (sym m.into) (no_trace m.table h.least h.most h.percent), ap (λ (t : Trace). t.lines) m.into, m.sets)
+
+-- the same of whatever reading answers
+pub refill_if : (text : List ℕ) (result : Result (Result Refill ℕ) OutOfMemory) → IfOk result (λ r. r ≡ refill_of text) → IfOk result (λ r. IfOk r IsRefill)
+refill_if text (Err want) is = tt
+refill_if text (Ok (Err n)) is = tt
+refill_if text (Ok (Ok r)) is = is_refill text r (sym is)

@@ -87,14 +87,14 @@ pairs_short new (c ∷ old) (suc at) ps total lt so_far = pairs_short new old at
 pub pairs_done : (new old : List Column) (at : ℕ) (ps : List Pair) (total : Option (List Pair)) → length old ≤ at → pairs_behind ps (kept_of new (drop at old) None) ≡ total → Some ps ≡ total
 unfolding values_for kept
 pairs_done new old at ps total le so_far =
-    let none = drop_all old at le in
+    let none = drop_all at old le in
     let end : pairs_behind ps (kept_of new [] None) ≡ total = rw none at so_far in
     ap (λ (xs : List Pair). Some xs) (sym (append-nil ps)) ∙ end
 
 pub pairs_long : (new old : List Column) (at : ℕ) (ps : List Pair) (text : List ℕ) (total : Option (List Pair)) → length old ≤ at → pairs_behind ps (kept_of new (drop at old) (Some text)) ≡ total → None ≡ total
 unfolding values_for
 pairs_long new old at ps text total le so_far =
-    let none = drop_all old at le in
+    let none = drop_all at old le in
     let end : pairs_behind ps (kept_of new [] (Some text)) ≡ total = rw none at so_far in
     end
 

@@ -80,6 +80,12 @@ value_back (Text t) fits = text_back t fits
 abbrev body : List ℕ × Value → List ℕ
 body p = p.0 ++ 61 ∷ value_text p.1
 
+pair_is : (p : List ℕ × Value) → pair_text p ≡ 32 ∷ body p
+pair_is p = simp append_assoc
+
+pairs_are : (p : List ℕ × Value) (ps : List (List ℕ × Value)) → flat_map pair_text (p ∷ ps) ≡ 32 ∷ (body p ++ flat_map pair_text ps)
+pairs_are p ps = ap (λ (t : List ℕ). t ++ flat_map pair_text ps) (pair_is p)
+
 pair_back : (name : List ℕ) (v : Value) → IsPair (name, v) → pair_of (name ++ 61 ∷ value_text v) ≡ Some (name, v)
 unfolding pair_of
 pair_back name v is =
@@ -93,7 +99,7 @@ body_plain name v is =
 
 bodies : (p : List ℕ × Value) (ps : List (List ℕ × Value)) → IsPair p → AllByRecursion IsPair ps → pieces_of 32 (body p ++ flat_map pair_text ps) ≡ body p ∷ map body ps
 bodies p [] is all = ap (pieces_of 32) (append-nil (body p)) ∙ piece_last 32 (body p) (body_plain p.0 p.1 is)
-bodies p (q ∷ qs) is all = piece_plain 32 (body p) (body q ++ flat_map pair_text qs) (body_plain p.0 p.1 is) ∙ ap (λ (ls : List (List ℕ)). body p ∷ ls) (bodies q qs all.0 all.1)
+bodies p (q ∷ qs) is all = ap (λ (t : List ℕ). pieces_of 32 (body p ++ t)) (pairs_are q qs) ∙ piece_plain 32 (body p) (body q ++ flat_map pair_text qs) (body_plain p.0 p.1 is) ∙ ap (λ (ls : List (List ℕ)). body p ∷ ls) (bodies q qs all.0 all.1)
 
 each_pair : (ps : List (List ℕ × Value)) → AllByRecursion IsPair ps → Each pair_of (map body ps) ps
 each_pair [] all = tt
@@ -108,7 +114,7 @@ behind_key (p ∷ ps) = Some (body p ++ flat_map pair_text ps)
 
 key_cut : (key : List ℕ) (ps : List (List ℕ × Value)) → AllByRecursion (λ b. b < 256) key → cut_at 32 (hex key ++ flat_map pair_text ps) ≡ (hex key, behind_key ps)
 key_cut key [] fits = ap (cut_at 32) (append-nil (hex key)) ∙ cut_none 32 (hex key) (without_low 32 (hex key) (omega arith) (hex_word key fits))
-key_cut key (p ∷ ps) fits = cut_plain 32 (hex key) (body p ++ flat_map pair_text ps) (without_low 32 (hex key) (omega arith) (hex_word key fits))
+key_cut key (p ∷ ps) fits = ap (λ (t : List ℕ). cut_at 32 (hex key ++ t)) (pairs_are p ps) ∙ cut_plain 32 (hex key) (body p ++ flat_map pair_text ps) (without_low 32 (hex key) (omega arith) (hex_word key fits))
 
 verb_back : (ps : List (List ℕ × Value)) → AllByRecursion IsPair ps → set_of (behind_key ps) ≡ Some (verbs.Set ps)
 unfolding set_of
@@ -166,7 +172,8 @@ before_last front =
     let back : suc (length front) - 1 ≡ length front = omega arith in
     let last : slice_index (front ++ 32 ∷ []) (length front) ≡ 32 = get_or-append_seam front 32 [] 0 in
     let rest : take (length front) (front ++ 32 ∷ []) ≡ front = take-append_seam front (32 ∷ []) in
-    rw (len, back, last, rest) refl
+    let some : eqb (suc (length front)) 0 ≡ false = grind arith in
+    rw (len, back, last, rest, some) refl
 
 arrow_back : (front back : List ℕ) → Without 62 front → arrow_parts (front ++ 32 ∷ 62 ∷ 32 ∷ back) ≡ Some (front, back)
 unfolding arrow_parts
@@ -187,7 +194,7 @@ line_by cs n text reply call replied lt w fit told =
 pairs_plain : (sep : ℕ) (ps : List (List ℕ × Value)) → ¬ (32 ≡ sep) → ¬ (61 ≡ sep) → ((xs : List ℕ) → IsWord xs → Without sep xs) → AllByRecursion IsPair ps → Without sep (flat_map pair_text ps)
 pairs_plain sep [] space sign word all = tt
 pairs_plain sep ((name, v) ∷ ps) space sign word all =
-    (space, without-append sep (name ++ 61 ∷ value_text v) (flat_map pair_text ps) (without-append sep name (61 ∷ value_text v) (word name (name_word name all.0.0)) (sign, word (value_text v) (value_word v all.0.1))) (pairs_plain sep ps space sign word all.1))
+    subst (Without sep) (sym (pairs_are (name, v) ps)) (space, without-append sep (name ++ 61 ∷ value_text v) (flat_map pair_text ps) (without-append sep name (61 ∷ value_text v) (word name (name_word name all.0.0)) (sign, word (value_text v) (value_word v all.0.1))) (pairs_plain sep ps space sign word all.1))
 
 set_plain : (sep : ℕ) (key : List ℕ) (ps : List (List ℕ × Value)) → ¬ (32 ≡ sep) → ¬ (61 ≡ sep) → ((xs : List ℕ) → IsWord xs → Without sep xs) → Without sep (codes "set ") → IsSet (Set key ps) → Without sep (set_text key ps)
 set_plain sep key ps space sign word front is =
@@ -197,10 +204,14 @@ text_plain : (key : List ℕ) (ps : List (List ℕ × Value)) → IsSet (Set key
 text_plain key ps is =
     set_plain 62 key ps (λ (e : 32 ≡ 62). omega (arith, e)) (λ (e : 61 ≡ 62). omega (arith, e)) (λ (xs : List ℕ) w. without_mid 62 xs (omega arith) (omega arith) w) (without_test 62 (codes "set ") refl) is
 
+words_are : (n : ℕ) (call : Call) (reply : Reply) → set_words n call reply ≡ decimal n ++ 32 ∷ 48 ∷ 32 ∷ (call_text call ++ 32 ∷ 62 ∷ 32 ∷ reply_text reply)
+words_are n call reply = simp append_assoc
+
 set_read : (cs : List Column) (t : Shape) (n : ℕ) (s : State) (key : List ℕ) (ps : List (List ℕ × Value)) → n < 18446744073709551616 → IsSet (Set key ps) → call_fault cs (Set key ps) ≡ None
     → line_of cs (set_words n (Set key ps) (TStep t s (Set key ps)).reply) ≡ Some (record { at = n; caller = 0; call = Set key ps; replied = only (TStep t s (Set key ps)).reply })
 set_read cs t n s key ps lt is fit =
-    line_by cs n (set_text key ps) (reply_text (TStep t s (Set key ps)).reply) (Set key ps) (only (TStep t s (Set key ps)).reply) lt (text_plain key ps is) (fit_back cs key ps is fit) (reply_back t s key ps)
+    ap (line_of cs) (words_are n (Set key ps) (TStep t s (Set key ps)).reply)
+    ∙ line_by cs n (set_text key ps) (reply_text (TStep t s (Set key ps)).reply) (Set key ps) (only (TStep t s (Set key ps)).reply) lt (text_plain key ps is) (fit_back cs key ps is fit) (reply_back t s key ps)
 
 -- the line of a Set with its step's reply is read as that
 pub line_read : (cs : List Column) (t : Shape) (n : ℕ) (s : State) (call : Call) → n < 18446744073709551616 → IsSet call → call_fault cs call ≡ None
@@ -222,9 +233,9 @@ words_plain n text reply lt wt wr =
 
 set_line_plain : (n : ℕ) (key : List ℕ) (ps : List (List ℕ × Value)) (r : Reply) → n < 18446744073709551616 → IsSet (Set key ps) → Without 10 (set_words n (Set key ps) r)
 set_line_plain n key ps r lt is =
-    words_plain n (set_text key ps) (reply_text r) lt
+    subst (Without 10) (sym (words_are n (Set key ps) r)) (words_plain n (set_text key ps) (reply_text r) lt
     (set_plain 10 key ps (λ (e : 32 ≡ 10). omega (arith, e)) (λ (e : 61 ≡ 10). omega (arith, e)) (λ (xs : List ℕ) w. without_low 10 xs (omega arith) w) (without_test 10 (codes "set ") refl) is)
-    (reply_plain r)
+    (reply_plain r))
 
 -- no line feed stands in it
 pub line_plain : (n : ℕ) (call : Call) (r : Reply) → n < 18446744073709551616 → IsSet call → Without 10 (set_words n call r)

@@ -47,7 +47,7 @@ is_sound text out r is fit made few =
     let plain : Without 10 (first r.into) = subst (λ (t : Trace). Without 10 (first t)) (sym m.into) (first_plain m.line m.table m.read m.plain) in
     let read : head_of (first r.into) ≡ Some r.into = subst (λ (t : Trace). head_of (first t) ≡ Some t) (sym m.into) (first_read m.line m.table m.read) in
     let back : trace_of out ≡ Ok (restored r) = ap trace_of made ∙ trace_back r (ap (λ (t : Trace). t.lines) m.into) m.sets fits (omega (arith, few)) plain read in
-    (r, (is, (back, subst (λ (t : Result Trace ℕ). IsAuditOf t (Ok (verdicts.Ok (length r.calls)))) (sym back) (is_verdict r m.sets))))
+    (r, is, back, subst (λ (t : Result Trace ℕ). IsAuditOf t (Ok (verdicts.Ok (length r.calls)))) (sym back) (is_verdict r m.sets))
 
 -- the same of whatever was answered
 pub sound_if : (text : List ℕ) (r : Refill) (result : Result (List ℕ) RestoreFault) → refill_of text ≡ Ok r → IsRestoredBy (Ok r) result → IfOk result (λ _. length r.calls ≤ 8796093022207) → IfOk result (IsSound text)

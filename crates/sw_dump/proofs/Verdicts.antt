@@ -74,7 +74,7 @@ head_at : (es rest : List TraceLine) (k : ℕ) (e : TraceLine) → drop k es ≡
 head_at [] rest zero e is = absurd cc
 head_at [] rest (suc k) e is = absurd cc
 head_at (x ∷ es) rest zero e is = let one : x ≡ e = cc in let more : es ≡ rest = cc in (ap Some one, more)
-head_at (x ∷ es) rest (suc k) e is = let h = head_at es rest k e is in (h.0, h.1)
+head_at (x ∷ es) rest (suc k) e is = let h = head_at es rest k e is in let next : suc k + 1 ≡ suc (k + 1) = omega arith in (h.0, ap (λ (n : ℕ). drop n (x ∷ es)) next ∙ h.1)
 
 past : (es : List TraceLine) (k : ℕ) → drop k es ≡ [] → length es ≤ k
 past [] k is = omega arith

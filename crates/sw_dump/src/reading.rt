@@ -34,12 +34,9 @@ fn with_dump(alloc: Global, into: Trace, text: &[u8]) -> Result<Result<Refill, u
     }
 }
 
-/// What a restore text asks for, or the number, from 1, of its first line that isn't in the grammar or is missing. The first line
-/// is `into SIZE PERCENT COLUMNS`, and behind it stands a dump: `dump SIZE PERCENT COLUMNS`, and `row KEY VALUE ..` for each row, in
-/// byte order of keys.
-pub fn read(alloc: Global, text: &[u8]) -> Result<Result<Refill, u64>, OutOfMemory>
-    ensures value { IfOk result (λ r. r ≡ refill_of text.now) }
-    ensures sound { IfOk result (λ r. IfOk r IsRefill) }
+/// What the text asks for, by its lines.
+fn refill(alloc: Global, text: &[u8]) -> Result<Result<Refill, u64>, OutOfMemory>
+    ensures { IfOk result (λ r. r ≡ refill_of text.now) }
 {
     let Some((line, rest)) = next_line(text) else {
         return Ok(Err(1));
@@ -48,4 +45,14 @@ pub fn read(alloc: Global, text: &[u8]) -> Result<Result<Refill, u64>, OutOfMemo
         None => Ok(Err(1)),
         Some(into) => with_dump(alloc, into, rest),
     }
+}
+
+/// What a restore text asks for, or the number, from 1, of its first line that isn't in the grammar or is missing. The first line
+/// is `into SIZE PERCENT COLUMNS`, and behind it stands a dump: `dump SIZE PERCENT COLUMNS`, and `row KEY VALUE ..` for each row, in
+/// byte order of keys.
+pub fn read(alloc: Global, text: &[u8]) -> Result<Result<Refill, u64>, OutOfMemory>
+    ensures value { IfOk result (λ r. r ≡ refill_of text.now) }
+    ensures sound { IfOk result (λ r. IfOk r IsRefill) }
+{
+    refill(alloc, text)
 }
