@@ -7,10 +7,10 @@ use Rattle.sw_dump.proofs.restoring.restore.Goals as goal
 
 pub returns-in-Ok-clause-restored : goal.returns-in-Ok-clause-restored
 returns-in-Ok-clause-restored c =
-    let is : refill_of c.args.text.now ≡ Ok c.in-Ok.refill = sym c.in_ok-read.ensures.value ∙ c.in-Ok.is in
+    let is : refill_of c.args.text.now ≡ Ok c.in-Ok.refill = sym c.in_ok-n.ensures.value ∙ c.in-Ok.is in
     subst (λ (x : Result Refill ℕ). IsRestoredBy x c.restored.result) (sym is) c.restored.ensures.restored
 
 pub returns-in-Ok-clause-sound : goal.returns-in-Ok-clause-sound
 returns-in-Ok-clause-sound c =
-    let is : refill_of c.args.text.now ≡ Ok c.in-Ok.refill = sym c.in_ok-read.ensures.value ∙ c.in-Ok.is in
+    let is : refill_of c.args.text.now ≡ Ok c.in-Ok.refill = sym c.in_ok-n.ensures.value ∙ c.in-Ok.is in
     sound_if c.args.text.now c.in-Ok.refill c.restored.result is c.restored.ensures.restored c.restored.ensures.few
