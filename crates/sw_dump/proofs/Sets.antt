@@ -187,9 +187,14 @@ line_by : (cs : List Column) (n : ℕ) (text reply : List ℕ) (call : Call) (re
 unfolding line_of digits_behind
 line_by cs n text reply call replied lt w fit told =
     let plain : Without 32 (decimal n) = without_low 32 (decimal n) (omega arith) (number_word n lt) in
-    rw (part_plain 32 (decimal n) (48 ∷ 32 ∷ (text ++ 32 ∷ 62 ∷ 32 ∷ reply)) plain,
-    part_plain 32 (48 ∷ []) (text ++ 32 ∷ 62 ∷ 32 ∷ reply) (without_test 32 (48 ∷ []) refl),
-    arrow_back text reply w, is_number n lt, fit, told) refl
+    rw (
+      part_plain 32 (decimal n) (48 ∷ 32 ∷ (text ++ 32 ∷ 62 ∷ 32 ∷ reply)) plain,
+      part_plain 32 (48 ∷ []) (text ++ 32 ∷ 62 ∷ 32 ∷ reply) (without_test 32 (48 ∷ []) refl),
+      arrow_back text reply w,
+      is_number n lt,
+      fit,
+      told,
+    ) refl
 
 pairs_plain : (sep : ℕ) (ps : List (List ℕ × Value)) → ¬ (32 ≡ sep) → ¬ (61 ≡ sep) → ((xs : List ℕ) → IsWord xs → Without sep xs) → AllByRecursion IsPair ps → Without sep (flat_map pair_text ps)
 pairs_plain sep [] space sign word all = tt

@@ -83,12 +83,12 @@ name_byte : (b : ℕ) → is_name_byte b ≡ true → WordByte b
 name_byte b e = elim (one_true (((leb 97 b && leb b 122) || (leb 65 b && leb b 90)) || (leb 48 b && leb b 57)) (eqb b 95) e) [
   | inr h ↦ let same = eqb-true b 95 h in (omega (arith, same), inr (omega (arith, same)))
   | inl f ↦ elim (one_true ((leb 97 b && leb b 122) || (leb 65 b && leb b 90)) (leb 48 b && leb b 57) f) [
-      | inr h ↦ let t = between 48 b 57 h in let low = t.0 in let high = t.1 in (omega (arith, low), inl high)
-      | inl g ↦ elim (one_true (leb 97 b && leb b 122) (leb 65 b && leb b 90) g) [
-          | inl h ↦ let t = between 97 b 122 h in let low = t.0 in (omega (arith, low), inr (omega (arith, low)))
-          | inr h ↦ let t = between 65 b 90 h in let low = t.0 in (omega (arith, low), inr low)
-        ]
+    | inr h ↦ let t = between 48 b 57 h in let low = t.0 in let high = t.1 in (omega (arith, low), inl high)
+    | inl g ↦ elim (one_true (leb 97 b && leb b 122) (leb 65 b && leb b 90) g) [
+      | inl h ↦ let t = between 97 b 122 h in let low = t.0 in (omega (arith, low), inr (omega (arith, low)))
+      | inr h ↦ let t = between 65 b 90 h in let low = t.0 in (omega (arith, low), inr low)
     ]
+  ]
 ]
 
 bytes_word : (bs : List ℕ) → list_all is_name_byte bs ≡ true → IsWord bs

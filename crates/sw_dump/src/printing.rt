@@ -185,7 +185,13 @@ fn reply_word(reply: Reply) -> &'static str
     }
 }
 
-fn put_set_words(alloc: Global, out: &mut Octets, at: u64, call: &Call, reply: Reply) -> Result<(), OutOfMemory>
+fn put_set_words(
+    alloc: Global,
+    out: &mut Octets,
+    at: u64,
+    call: &Call,
+    reply: Reply,
+) -> Result<(), OutOfMemory>
     ensures { OnOk result (out.new ≡ out.old ++ set_words at call.now reply) }
 {
     put_digits(alloc, out, at)?;

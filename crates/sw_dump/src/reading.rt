@@ -12,7 +12,12 @@ use sw_base::OutOfMemory;
 use sw_text::next_line;
 
 /// The restore into a Table of a dump with these columns, whose rows the text is.
-fn with_rows(alloc: Global, into: Trace, dumped: &Trace, text: &[u8]) -> Result<Result<Refill, u64>, OutOfMemory>
+fn with_rows(
+    alloc: Global,
+    into: Trace,
+    dumped: &Trace,
+    text: &[u8],
+) -> Result<Result<Refill, u64>, OutOfMemory>
     ensures { IfOk result (λ r. r ≡ with_calls into dumped.now.schema (rows_from dumped.now.schema None 3 (lines_of text.now))) }
 {
     match calls(alloc, &into.schema, &dumped.schema, text)? {

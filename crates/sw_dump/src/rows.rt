@@ -33,12 +33,7 @@ fn fit_value(alloc: Global, column: &Column, text: &[u8]) -> Result<Option<Value
 }
 
 /// One pair more, where the new columns have this column.
-fn keep(
-    pairs: &mut Pairs,
-    new: &Schema,
-    column: &Column,
-    value: Value,
-) -> Result<(), OutOfMemory>
+fn keep(pairs: &mut Pairs, new: &Schema, column: &Column, value: Value) -> Result<(), OutOfMemory>
     ensures { IfOk result (λ _. pairs.new ≡ kept_last new.now pairs.old column.now value) }
 {
     if new.place(column.name.bytes()).is_some() {

@@ -5,10 +5,9 @@ ghost use Rattle.sw_base.specs.declared.table.Call.{Call};
 ghost use Rattle.sw_column.specs.Fit.{call_fault};
 ghost use Rattle.sw_dump.specs.Restores.{TakesBefore, IsFirstRefused, IsRefusedFor, IsUnfitIn, IsSet};
 
+use crate::fitting::takes_pair;
 use sw_base::{Call, Key, Name, OutOfMemory, Pairs};
 use sw_column::Schema;
-
-use crate::fitting::takes_pair;
 
 /// Where the first pair stands that the columns refuse.
 fn first_refused(schema: &Schema, pairs: &Pairs) -> Option<usize>

@@ -9,8 +9,8 @@ use crate::answering::answer;
 use crate::word::Word;
 use crate::words::{Command, command_of};
 use std::alloc::Global;
-use sw_base::Octets;
 use sw_answer::{Refusal, Status};
+use sw_base::Octets;
 use sw_causes::{InputFault, Sink, Source, read_whole, write_whole};
 
 /// What comes of reading the source and doing what it says.
