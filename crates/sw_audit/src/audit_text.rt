@@ -25,7 +25,7 @@ pub fn final_state(alloc: Global, text: &[u8]) -> Result<Result<Plain, u64>, Aud
     ensures { IsFinalState text.now result }
 {
     match read(alloc, text)? {
-        Err(n) => Err(AuditFault::BadLine(n)),
+        Err(line) => Err(AuditFault::BadLine(line)),
         Ok(trace) => Ok(finished(alloc, trace)?),
     }
 }
