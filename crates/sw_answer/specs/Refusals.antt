@@ -14,7 +14,7 @@ use Rattle.sw_settings.specs.Faults.{core_fault, fault_of}
 use Rattle.sw_answer.specs.declared.refusal.Refusal.{Refusal}
 use Rattle.sw_audit.specs.declared.verdict.Verdict.TheVariants as verdicts
 use Rattle.sw_audit.specs.Printing.{verdict_text}
-use Rattle.sw_answer.specs.declared.refusal.Refusal.TheVariants.{Line, Settings, Place}
+use Rattle.sw_answer.specs.declared.refusal.Refusal.TheVariants.{Line, Settings, Place, Unfit}
 use Rattle.sw_answer.specs.declared.status.Status.{Status}
 use Rattle.sw_answer.specs.declared.status.Status.TheVariants as statuses
 
@@ -50,16 +50,22 @@ settings_text fault = codes "fault settings " ++ reason_text fault ++ codes "\n"
 abbrev pub line_text : ℕ → List ℕ
 line_text n = codes "fault line " ++ decimal n ++ codes "\n"
 
+-- the line that is written for a dumped row that new columns refuse, with the name of the first column for which they do
+abbrev pub unfit_text : ℕ → List ℕ → List ℕ
+unfit_text n name = codes "fault unfit " ++ decimal n ++ codes " x" ++ hex name ++ codes "\n"
+
 abbrev pub refusal_text : Refusal → List ℕ
 refusal_text (Line n) = line_text n
 refusal_text (Settings fault) = settings_text fault
 refusal_text (Place at) = verdict_text (verdicts.No at)
+refusal_text (Unfit n name) = unfit_text n name
 
 -- the status of a refused input
 abbrev pub refusal_status : Refusal → Status
 refusal_status (Line n) = statuses.BadLine n
 refusal_status (Settings fault) = statuses.Settings fault
 refusal_status (Place at) = statuses.No at
+refusal_status (Unfit n name) = statuses.Unfit n name
 
 abbrev pub is_memory : SettingsFault → Bool
 is_memory OutOfMemory = true

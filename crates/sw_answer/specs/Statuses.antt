@@ -10,6 +10,7 @@ status_number (statuses.BadLine n) = 1
 status_number (statuses.Settings f) = 1
 status_number statuses.InputLong = 1
 status_number (statuses.No at) = 1
+status_number (statuses.Unfit n name) = 1
 status_number statuses.Usage = 2
 status_number statuses.ReadFault = 3
 status_number statuses.WriteFault = 4

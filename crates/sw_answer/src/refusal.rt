@@ -5,12 +5,12 @@ ghost use Rattle.std.specs.Fmt.{decimal};
 ghost use Rattle.sw_text.specs.Hex.{hex};
 ghost use Rattle.sw_audit.specs.declared.verdict.Verdict.TheVariants as verdicts;
 ghost use Rattle.sw_audit.specs.Printing.{verdict_text};
-ghost use Rattle.sw_answer.specs.Refusals.{column_word, is_memory, key_text, reason_text, settings_text, line_text, refusal_text, refusal_status};
+ghost use Rattle.sw_answer.specs.Refusals.{column_word, is_memory, key_text, reason_text, settings_text, line_text, unfit_text, refusal_text, refusal_status};
 
 use crate::status::Status;
 use std::alloc::Global;
 use sw_audit::{Verdict, print};
-use sw_base::{Octets, OutOfMemory};
+use sw_base::{Name, Octets, OutOfMemory};
 use sw_column::ColumnFault;
 use sw_settings::SettingsFault;
 use sw_text::{put_hex, put_number};
@@ -34,6 +34,8 @@ pub enum Refusal {
     Settings(SettingsFault),
     /// This is the least bad place of a trace.
     Place(u64),
+    /// This is the first line whose row the new columns refuse, and this the first column for which they do.
+    Unfit(u64, Name),
 }
 
 fn put_key(out: &mut Octets, word: &str, key: &[u8]) -> Result<(), OutOfMemory>
@@ -145,6 +147,18 @@ fn line_text(alloc: Global, number: u64) -> Result<Octets, OutOfMemory>
     Ok(out)
 }
 
+fn unfit_text(alloc: Global, number: u64, name: &[u8]) -> Result<Octets, OutOfMemory>
+    ensures { IfOk result (λ text. text ≡ unfit_text number name.now) }
+{
+    let mut out = Octets::new(alloc);
+    let mut digits = String::new(alloc);
+    put_number(&mut digits, number)?;
+    put_key(&mut out, "fault unfit ", digits.as_bytes())?;
+    put_name(alloc, &mut out, " x", name)?;
+    out.extend(b"\n")?;
+    Ok(out)
+}
+
 fn place_text(alloc: Global, at: u64) -> Result<Octets, OutOfMemory>
     ensures { IfOk result (λ text. text ≡ verdict_text (verdicts.No at)) }
 {
@@ -161,6 +175,7 @@ impl Refusal {
             Refusal::Line(number) => line_text(alloc, *number),
             Refusal::Settings(fault) => settings_text(alloc, fault),
             Refusal::Place(at) => place_text(alloc, *at),
+            Refusal::Unfit(number, name) => unfit_text(alloc, *number, name.bytes()),
         }
     }
 
@@ -172,6 +187,7 @@ impl Refusal {
             Refusal::Line(number) => Status::BadLine(number),
             Refusal::Settings(fault) => Status::Settings(fault),
             Refusal::Place(at) => Status::No(at),
+            Refusal::Unfit(number, name) => Status::Unfit(number, name),
         }
     }
 }

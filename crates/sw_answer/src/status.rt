@@ -3,6 +3,7 @@
 ghost use Rattle.std.specs.Prelude.{◌≡◌};
 ghost use Rattle.sw_answer.specs.Statuses.{status_number};
 
+use sw_base::Name;
 use sw_settings::SettingsFault;
 
 /// How a command ended.
@@ -19,6 +20,9 @@ pub enum Status {
     /// The trace's least place that is missing, doubled, has another reply than the Table's definition gives, or stands behind
     /// a greater place of the same caller.
     No(u64),
+    /// Each line is in the grammar, and the one of this number, from 1, is the first whose row the new columns refuse; the name is
+    /// that of the first column for which they do.
+    Unfit(u64, Name),
     /// The words name no command.
     Usage,
     /// A read of the source failed.
@@ -40,6 +44,7 @@ impl Status {
             Status::Settings(_) => 1,
             Status::InputLong => 1,
             Status::No(_) => 1,
+            Status::Unfit(_, _) => 1,
             Status::Usage => 2,
             Status::ReadFault => 3,
             Status::WriteFault => 4,

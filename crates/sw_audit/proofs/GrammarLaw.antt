@@ -1,4 +1,4 @@
-use Rattle.std.specs.Prelude.{IfSome}
+use Rattle.std.specs.Prelude.{IfSome, codes}
 use Rattle.std.proofs.lemmas.List.{append-nil}
 use Rattle.sw_column.specs.declared.column.Column.{Column}
 use Rattle.std.proofs.Common.{subst, ◌≡◌, ℕ, ◌+◌, List, [], ◌∷◌, ◌++◌, length, Option, Some, None, Result, Ok, Err, refl, ap, sym, ◌∙◌, inl, inr, arith, append_assoc}
@@ -67,7 +67,7 @@ by_head head ls (Some t) is none = from_head head ls t (lines_read 2 (Ok t) ls) 
 
 by_lines : (ls : List (List ℕ)) → AreTrace ls (lines_trace ls)
 by_lines [] = inl (tt, refl)
-by_lines (l ∷ ls) = by_head l ls (head_of l) refl (no_lines_yet (table_text l))
+by_lines (l ∷ ls) = by_head l ls (head_of l) refl (no_lines_yet (table_text (codes "table") l))
 
 pub is_read : (text : List ℕ) → IsRead text (trace_of text)
 is_read text = by_lines (lines_of text)

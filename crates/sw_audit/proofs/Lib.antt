@@ -6,3 +6,4 @@ pub mod PlaceLaws
 pub mod LeastLaws
 pub mod SortLaws
 pub mod VerdictLaws
+pub mod FinalLaws

@@ -37,10 +37,10 @@ schema_text text = do
   columns ← listed text
   taken (schema_of columns)
 
--- SIZE, PERCENT and the columns behind the word table
-unfoldable pub table_text : List ℕ → Option (ℕ × ℕ × List Column)
-table_text line = do
-  rest ← behind_word (codes "table") line
+-- SIZE, PERCENT and the columns behind a word
+unfoldable pub table_text : List ℕ → List ℕ → Option (ℕ × ℕ × List Column)
+table_text word line = do
+  rest ← behind_word word line
   s ← part_at 32 rest
   p ← part_at 32 s.1
   size ← number_within 1 524288 s.0
@@ -52,9 +52,13 @@ abbrev pub without_lines : Option (ℕ × ℕ × List Column) → Option Trace
 without_lines None = None
 without_lines (Some t) = Some (record { size = t.0; percent = t.1; schema = t.2; lines = [] })
 
--- table SIZE PERCENT COLUMNS: the Table of a trace that has no lines yet
+-- a word, SIZE, PERCENT and COLUMNS: the Table of a trace that has no lines yet
+abbrev pub table_of_line : List ℕ → List ℕ → Option Trace
+table_of_line word line = without_lines (table_text word line)
+
+-- the same behind the word table
 abbrev pub head_of : List ℕ → Option Trace
-head_of line = without_lines (table_text line)
+head_of line = table_of_line (codes "table") line
 
 -- ---- each later line
 

@@ -2,4 +2,5 @@ pub mod Grammar
 pub mod Reading
 pub mod Verdicts
 pub mod Judging
+pub mod Finals
 pub mod Printing

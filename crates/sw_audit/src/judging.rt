@@ -1,6 +1,6 @@
 //! The verdict on a trace: its calls are made on a plain Table in the order of their places.
 
-ghost use Rattle.std.specs.Prelude.{◌≡◌, ◌+◌, ◌<◌, ◌≤◌, None, Some, All, IfOk, length, MatchBool, ℕ, IsPermutation};
+ghost use Rattle.std.specs.Prelude.{◌≡◌, ◌+◌, ◌<◌, ◌≤◌, None, Some, All, IfOk, IfNone, length, MatchBool, ℕ, IsPermutation};
 ghost use Rattle.std.specs.Bool.{OnTrue};
 ghost use Rattle.std.specs.List.Sorted.{IsNonDecreasingBy};
 ghost use Rattle.std.specs.FinMap as map;
@@ -9,11 +9,12 @@ ghost use Rattle.sw_column.specs.Values.{HasKinds};
 ghost use Rattle.sw_tmodel.specs.Plain.{shape_of};
 ghost use Rattle.sw_audit.specs.declared.trace.TraceLine.{TraceLine};
 ghost use Rattle.sw_audit.specs.Grammar.{IsTrace};
-ghost use Rattle.sw_audit.specs.Judging.{IsLeast, HasPlace, IsReached, IsSameTable};
+ghost use Rattle.sw_audit.specs.Judging.{IsLeast, HasPlace, IsReached, IsSameTable, lesser};
+ghost use Rattle.sw_audit.specs.Finals.{IsPlayed, IsFinished};
 ghost use Rattle.sw_audit.specs.Verdicts.{IsVerdict, IsWrong, table_of, lines_at};
 
 use crate::answers::is_told;
-use crate::late::{first_late, lesser};
+use crate::late::first_late;
 use crate::trace::{Trace, TraceLine, TraceLines};
 use crate::verdict::Verdict;
 use std::alloc::Global;
@@ -66,52 +67,80 @@ fn is_right(lines: &[TraceLine], at: usize, plain: &mut Plain, row: &mut RowBuf)
     is_told(&lines[at], plain, row)
 }
 
-/// The least wrong place of lines that are in the order of their places. The plain Table has made no call.
-fn first_in_order(lines: &[TraceLine], plain: Plain, row: RowBuf) -> Option<u64>
+/// The least wrong place of lines that are in the order of their places, if there is one. The plain Table has made no call, and
+/// makes all of theirs where there is none.
+fn first_in_order(lines: &[TraceLine], plain: &mut Plain, row: RowBuf) -> Option<u64>
     requires order { IsNonDecreasingBy (λ (e : TraceLine). e.at) lines.now }
-    requires fit { All (λ (e : TraceLine). call_fault plain.columns e.call ≡ None) lines.now }
-    requires calls { plain.calls ≡ 0 }
-    requires state { plain.state ≡ map.empty }
-    requires room { length lines.now ≤ plain.last_call }
-    requires kinds { HasKinds plain.columns row }
-    ensures { IsLeast (IsWrong (shape_of plain) lines.now) result }
+    requires fit { All (λ (e : TraceLine). call_fault plain.old.columns e.call ≡ None) lines.now }
+    requires calls { plain.old.calls ≡ 0 }
+    requires state { plain.old.state ≡ map.empty }
+    requires room { length lines.now ≤ plain.old.last_call }
+    requires kinds { HasKinds plain.old.columns row }
+    ensures least { IsLeast (IsWrong (shape_of plain.old) lines.now) result }
+    ensures reached { IfNone result (IsReached lines.now (length lines.now) plain.new) }
+    ensures same { IsSameTable plain.old plain.new }
 {
-    let mut plain = plain;
     let mut row = row;
     for at in 0..lines.len() {
-        if !is_right(lines, at, &mut plain, &mut row) {
+        if !is_right(lines, at, plain, &mut row) {
             return Some(at as u64);
         }
     }
     None
 }
 
-/// The least place that is missing, doubled or has another reply, if there is one.
-fn first_wrong(alloc: Global, trace: Trace) -> Result<Option<u64>, OutOfMemory>
+/// The Table that a trace leaves, or the least place that is missing, doubled or has another reply.
+fn played(alloc: Global, trace: Trace) -> Result<Result<Plain, u64>, OutOfMemory>
     requires { IsTrace trace }
-    ensures { IfOk result (IsLeast (IsWrong (table_of trace) trace.lines)) }
+    ensures { IfOk result (IsPlayed trace) }
 {
     let lines = by_place(trace.lines)?;
     if lines.len() as u64 > MOST_CALLS {
         return Err(OutOfMemory);
     }
     let row = RowBuf::make(alloc, &trace.schema)?;
-    let plain = Plain::make(alloc, trace.schema, trace.size, trace.percent, MOST_CALLS)?;
-    Ok(first_in_order(&lines, plain, row))
+    let mut plain = Plain::make(alloc, trace.schema, trace.size, trace.percent, MOST_CALLS)?;
+    match first_in_order(&lines, &mut plain, row) {
+        None => Ok(Ok(plain)),
+        Some(at) => Ok(Err(at)),
+    }
 }
 
-/// The verdict on a trace: `No` for the least place that is missing, doubled, has another reply than the definition's after the
-/// calls at all lower places, or stands behind a greater place of the same caller; `Ok` with the number of calls where there is
-/// no such place. More than 8,796,093,022,207 lines are more than memory holds, and the answer is `OutOfMemory`.
+/// The lesser of two places, one of which may be absent.
+fn lower(late: Option<u64>, wrong: u64) -> u64
+    ensures { Some result ≡ lesser late (Some wrong) }
+{
+    match late {
+        None => wrong,
+        Some(late) => { if wrong < late { wrong } else { late } }
+    }
+}
+
+/// The Table that a trace leaves, or the least place that is missing, doubled, has another reply than the definition's after the
+/// calls at all lower places, or stands behind a greater place of the same caller. More than 8,796,093,022,207 lines are more
+/// than memory holds, and the answer is `OutOfMemory`.
+pub fn finished(alloc: Global, trace: Trace) -> Result<Result<Plain, u64>, OutOfMemory>
+    requires { IsTrace trace }
+    ensures { IfOk result (IsFinished trace) }
+{
+    let late = first_late(alloc, trace.lines.as_slice())?;
+    let end = played(alloc, trace)?;
+    match end {
+        Err(wrong) => Ok(Err(lower(late, wrong))),
+        Ok(plain) => match late {
+            None => Ok(Ok(plain)),
+            Some(at) => Ok(Err(at)),
+        },
+    }
+}
+
+/// The verdict on a trace: `No` for the least bad place, and `Ok` with the number of calls where there is none.
 pub fn judge(alloc: Global, trace: Trace) -> Result<Verdict, OutOfMemory>
     requires { IsTrace trace }
     ensures { IfOk result (IsVerdict trace) }
 {
-    let calls = trace.lines.as_slice().len() as u64;
-    let late = first_late(alloc, trace.lines.as_slice())?;
-    let wrong = first_wrong(alloc, trace)?;
-    match lesser(late, wrong) {
-        None => Ok(Verdict::Ok(calls)),
-        Some(at) => Ok(Verdict::No(at)),
+    match finished(alloc, trace)? {
+        Ok(plain) => Ok(Verdict::Ok(plain.calls())),
+        Err(at) => Ok(Verdict::No(at)),
     }
 }

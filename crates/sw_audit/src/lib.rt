@@ -11,9 +11,9 @@ mod reading;
 mod trace;
 mod verdict;
 
-pub use audit_text::audit;
+pub use audit_text::{audit, final_state};
 pub use judging::judge;
 pub use printing::print;
-pub use reading::{read, reading_is_exact};
+pub use reading::{behind_word, read, reading_is_exact, table_line};
 pub use trace::{Trace, TraceLine, TraceLines};
 pub use verdict::{AuditFault, Verdict};

@@ -6,7 +6,7 @@ ghost use Rattle.sw_text.specs.Views.{parts_seen};
 ghost use Rattle.sw_text.specs.Numbers.{number_within};
 ghost use Rattle.std.specs.Option.{option_copied};
 ghost use Rattle.sw_column.specs.Fit.{call_fault};
-ghost use Rattle.sw_audit.specs.Grammar.{behind_word, listed, schema_text, head_of, before_space, behind_space, arrow_parts, fit_call, line_of, line_read, lines_read, trace_of, IsTrace};
+ghost use Rattle.sw_audit.specs.Grammar.{behind_word, listed, schema_text, table_of_line, head_of, before_space, behind_space, arrow_parts, fit_call, line_of, line_read, lines_read, trace_of, IsTrace};
 ghost use Rattle.sw_audit.specs.Reading.{IsRead};
 
 use crate::trace::{Trace, TraceLine, TraceLines};
@@ -16,8 +16,9 @@ use sw_call::{Columns, call, columns, reply, schema};
 use sw_column::Schema;
 use sw_text::{is, next_line, number, number_within, part};
 
+/// What stands behind a word and a space. None exactly where the text doesn't begin so.
 #[tactic(auto, unfolding(crate::specs::Grammar::behind_word))]
-fn behind_word<'a>(text: &'a [u8], word: &str) -> Option<&'a [u8]>
+pub fn behind_word<'a>(text: &'a [u8], word: &str) -> Option<&'a [u8]>
     ensures { option_copied result ≡ behind_word word.now text.now }
 {
     let (first, rest) = part(text, b' ')?;
@@ -57,13 +58,15 @@ fn small(text: &[u8], least: u32, most: u32) -> Option<u32>
     Some(n as u32)
 }
 
-/// The Table that the first line names, without lines yet.
+/// The Table that a line names behind a word, as `WORD SIZE PERCENT COLUMNS`, for a trace without lines yet. The size is 1 to
+/// 524,288, the percent 0 to 100, and `-` stands for no columns. None exactly where it is no such line, or the schema refuses a
+/// column.
 #[tactic(auto, unfolding(crate::specs::Grammar::table_text))]
-fn head(alloc: Global, line: &[u8]) -> Result<Option<Trace>, OutOfMemory>
-    ensures value { IfOk result (λ t. t ≡ head_of line.now) }
+pub fn table_line(alloc: Global, word: &str, line: &[u8]) -> Result<Option<Trace>, OutOfMemory>
+    ensures value { IfOk result (λ t. t ≡ table_of_line word.now line.now) }
     ensures fits { IfOk result (λ t. IfSome t IsTrace) }
 {
-    let Some(rest) = behind_word(line, "table") else {
+    let Some(rest) = behind_word(line, word) else {
         return Ok(None);
     };
     let Some((size, rest)) = part(rest, b' ') else {
@@ -87,6 +90,14 @@ fn head(alloc: Global, line: &[u8]) -> Result<Option<Trace>, OutOfMemory>
         schema,
         lines: TraceLines::new(alloc),
     }))
+}
+
+/// The Table that the first line names, without lines yet.
+fn head(alloc: Global, line: &[u8]) -> Result<Option<Trace>, OutOfMemory>
+    ensures value { IfOk result (λ t. t ≡ head_of line.now) }
+    ensures fits { IfOk result (λ t. IfSome t IsTrace) }
+{
+    table_line(alloc, "table", line)
 }
 
 fn before_space(text: &[u8]) -> Option<&[u8]>

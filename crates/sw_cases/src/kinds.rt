@@ -1,7 +1,7 @@
 //! The cases one by one, each by its kind.
 
 use crate::case::{Case, bytes_of};
-use crate::{beat, cut, read, set, show, table, tool};
+use crate::{again, beat, cut, read, set, show, table, tool};
 use std::alloc::Global;
 use sw_base::OutOfMemory;
 
@@ -22,6 +22,7 @@ fn put_outcome(
         "read" => read::put(alloc, out, case, words, filler),
         "settings" => set::put(alloc, out, case, filler),
         "table" => table::put(alloc, out, case, words, filler),
+        "again" => again::put(alloc, out, case),
         "beat" => beat::put(alloc, out, case, words, filler),
         "show" => show::put(alloc, out, words),
         _ => Ok(out.push_str("no such kind\n")?),

@@ -3,6 +3,7 @@
 //! standard input says how a case is written.
 #![tactic(auto)]
 
+mod again;
 mod beat;
 mod case;
 mod cut;

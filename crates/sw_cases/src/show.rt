@@ -3,19 +3,20 @@
 use crate::output::put_lines;
 use crate::record::record;
 use std::alloc::{AllocError, Global};
-use sw_base::OutOfMemory;
+use sw_base::{Name, OutOfMemory};
 use sw_drill::print;
 use sw_settings::SettingsFault;
 use sw_top::Status;
 
 /// Prints the number of each status.
-fn put_statuses(out: &mut String) -> Result<(), AllocError> {
+fn put_statuses(alloc: Global, out: &mut String) -> Result<(), AllocError> {
     let statuses = [
         ("Ok", Status::Ok),
         ("BadLine", Status::BadLine(7)),
         ("Settings", Status::Settings(SettingsFault::OutOfMemory)),
         ("InputLong", Status::InputLong),
         ("No", Status::No(7)),
+        ("Unfit", Status::Unfit(7, Name::new(alloc))),
         ("Usage", Status::Usage),
         ("ReadFault", Status::ReadFault),
         ("WriteFault", Status::WriteFault),
@@ -30,7 +31,7 @@ fn put_statuses(out: &mut String) -> Result<(), AllocError> {
 /// Plays the case: `show statuses`, or `show record`, which prints a record with links and answers that no schedule gives.
 pub fn put(alloc: Global, out: &mut String, words: &str) -> Result<(), OutOfMemory> {
     match words {
-        "statuses" => Ok(put_statuses(out)?),
+        "statuses" => Ok(put_statuses(alloc, out)?),
         "record" => {
             let text = print(alloc, &record(alloc)?)?;
             Ok(put_lines(alloc, out, text.as_bytes())?)

@@ -16,9 +16,9 @@ use Rattle.sw_settings.specs.declared.pair.Pair.{Pair}
 use Rattle.sw_settings.specs.Faults.{IsRefusal, core_fault, fault_of}
 use Rattle.sw_settings_json.specs.Json.{json_settings}
 use Rattle.sw_answer.specs.declared.refusal.Refusal.{Refusal}
-use Rattle.sw_answer.specs.declared.refusal.Refusal.TheVariants.{Line, Settings, Place}
+use Rattle.sw_answer.specs.declared.refusal.Refusal.TheVariants.{Line, Settings, Place, Unfit}
 use Rattle.sw_top.specs.declared.words.Command.{Command}
-use Rattle.sw_top.specs.declared.words.Command.TheVariants.{Drill as DrillCommand, Audit, Settings as SettingsCommand, Timers}
+use Rattle.sw_top.specs.declared.words.Command.TheVariants.{Drill as DrillCommand, Audit, Settings as SettingsCommand, Timers, Dump, Restore}
 use Rattle.sw_top.specs.Answering.{Answers, shown}
 use Rattle.sw_play.specs.Faults.{drill_fault}
 use Rattle.sw_answer.specs.Refusals.{is_memory, refusal_text, refusal_status}
@@ -39,6 +39,7 @@ all_written words s k (statuses.BadLine n) text m w = (text, m, w)
 all_written words s k (statuses.Settings fault) text m w = (text, m, w)
 all_written words s k statuses.InputLong text m w = (text, m, w)
 all_written words s k (statuses.No at) text m w = (text, m, w)
+all_written words s k (statuses.Unfit n name) text m w = (text, m, w)
 all_written words s k statuses.Usage text m w = (text, m, w)
 all_written words s k statuses.ReadFault text m w = (text, m, w)
 all_written words s k statuses.WriteFault text m w = absurd (never_due (command_of words) s text m)
@@ -50,6 +51,7 @@ was_cut words s k (statuses.BadLine n) text m w = (statuses.BadLine n, text, m, 
 was_cut words s k (statuses.Settings fault) text m w = (statuses.Settings fault, text, m, w)
 was_cut words s k statuses.InputLong text m w = (statuses.InputLong, text, m, w)
 was_cut words s k (statuses.No at) text m w = (statuses.No at, text, m, w)
+was_cut words s k (statuses.Unfit n name) text m w = (statuses.Unfit n name, text, m, w)
 was_cut words s k statuses.Usage text m w = (statuses.Usage, text, m, w)
 was_cut words s k statuses.ReadFault text m w = (statuses.ReadFault, text, m, w)
 was_cut words s k statuses.WriteFault text m w = absurd (never_due (command_of words) s text m)
@@ -134,18 +136,24 @@ ok_expected DrillCommand input text a = sym (ok_answer (drill_of input) text a)
 ok_expected Audit input text a = (a.0, a.1)
 ok_expected SettingsCommand input text a = ok_shown (json_settings input) text a
 ok_expected Timers input text a = ok_timed (lines_from 1 (lines_of input)) text a
+ok_expected Dump input text a = (a.0, a.1)
+ok_expected Restore input text a = (text, a)
 
 line_expected : (c : Command) (input : List ℕ) (n : ℕ) → Answers c input (Err (Line n)) → Expected c input (statuses.BadLine n)
 line_expected DrillCommand input n a = sym (line_answer (drill_of input) n a)
 line_expected Audit input n a = a
 line_expected SettingsCommand input n a = absurd (line_shown (json_settings input) n a)
 line_expected Timers input n a = line_timed (lines_from 1 (lines_of input)) n a
+line_expected Dump input n a = a
+line_expected Restore input n a = a
 
 settings_expected : (c : Command) (input : List ℕ) (fault : SettingsFault) → Answers c input (Err (Settings fault)) → Expected c input (statuses.Settings fault)
 settings_expected DrillCommand input fault a = sym (settings_answer (drill_of input) fault a)
 settings_expected Audit input fault a = absurd a
 settings_expected SettingsCommand input fault a = settings_shown (json_settings input) fault a
 settings_expected Timers input fault a = absurd a
+settings_expected Dump input fault a = absurd a
+settings_expected Restore input fault a = absurd a
 
 place_by : (d : Drill) (o : Option SettingsFault) (at : ℕ) → played_or d o ≡ Err (Place at) → ⊥
 place_by d None at e = cc
@@ -160,6 +168,28 @@ place_expected DrillCommand input at a = absurd (place_answer (drill_of input) a
 place_expected Audit input at a = a
 place_expected SettingsCommand input at a = absurd (place_shown (json_settings input) at a)
 place_expected Timers input at a = absurd a
+place_expected Dump input at a = a
+place_expected Restore input at a = absurd a
+
+unfit_by : (d : Drill) (o : Option SettingsFault) (n : ℕ) (name : List ℕ) → played_or d o ≡ Err (Unfit n name) → ⊥
+unfit_by d None n name e = cc
+unfit_by d (Some fault) n name e = cc
+
+unfit_answer : (r : Result Drill ℕ) (n : ℕ) (name : List ℕ) → answered r ≡ Err (Unfit n name) → ⊥
+unfit_answer (Ok d) n name e = unfit_by d (drill_fault d.pairs) n name e
+unfit_answer (Err m) n name e = cc
+
+unfit_shown : (r : Result Values SettingsFault) (n : ℕ) (name : List ℕ) → Err (Unfit n name) ≡ shown r → ⊥
+unfit_shown (Ok v) n name e = cc
+unfit_shown (Err fault) n name e = cc
+
+unfit_expected : (c : Command) (input : List ℕ) (n : ℕ) (name : List ℕ) → Answers c input (Err (Unfit n name)) → Expected c input (statuses.Unfit n name)
+unfit_expected DrillCommand input n name a = absurd (unfit_answer (drill_of input) n name a)
+unfit_expected Audit input n name a = absurd a
+unfit_expected SettingsCommand input n name a = absurd (unfit_shown (json_settings input) n name a)
+unfit_expected Timers input n name a = absurd a
+unfit_expected Dump input n name a = absurd a
+unfit_expected Restore input n name a = a
 
 -- what is due for a known command
 due : (words : List (List ℕ)) (c : Command) (s : FromSource) (status : Status) (text : List ℕ) → command_of words ≡ Some c → Meant words s status text → Due c s status text
@@ -181,6 +211,8 @@ complete words s k statuses.InputLong d c is no_read no_write input e fits =
     absurd (omega (arith, part_of s.left_new came.0 input (subst (λ l. Consumes l s.left_new came.0) e came.1), came.2.0, fits))
 complete words s k (statuses.No at) d c is no_read no_write input e fits =
     inl (place_expected c input at (answered_all c s (Err (Place at)) input e (due words c s (statuses.No at) d.0 is d.1).0))
+complete words s k (statuses.Unfit n name) d c is no_read no_write input e fits =
+    inl (unfit_expected c input n name (answered_all c s (Err (Unfit n name)) input e (due words c s (statuses.Unfit n name) d.0 is d.1).0))
 complete words s k statuses.Usage d c is no_read no_write input e fits = absurd (due words c s statuses.Usage d.0 is d.1)
 complete words s k statuses.ReadFault d c is no_read no_write input e fits = absurd (no_read (due words c s statuses.ReadFault d.0 is d.1).1)
 complete words s k statuses.WriteFault d c is no_read no_write input e fits = absurd (no_write d.3.1)
@@ -200,3 +232,4 @@ pub refused_due : (c : Command) (s : FromSource) (refusal : Refusal) (status : S
 refused_due c s (Line n) status text came is t = subst (λ (x : Status). Due c s x text) (sym is) (came, t)
 refused_due c s (Settings fault) status text came is t = subst (λ (x : Status). Due c s x text) (sym is) (came, t)
 refused_due c s (Place at) status text came is t = subst (λ (x : Status). Due c s x text) (sym is) (came, t)
+refused_due c s (Unfit n name) status text came is t = subst (λ (x : Status). Due c s x text) (sym is) (came, t)

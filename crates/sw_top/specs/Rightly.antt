@@ -3,7 +3,7 @@ use Rattle.std.specs.Prelude.{◌≡◌, ℕ, List, slice_get, Option, Some, Non
 use Rattle.sw_answer.specs.declared.status.Status.{Status}
 use Rattle.sw_answer.specs.declared.status.Status.TheVariants as statuses
 use Rattle.sw_top.specs.declared.words.Command.{Command}
-use Rattle.sw_top.specs.declared.words.Command.TheVariants.{Drill as DrillCommand, Audit, Settings as SettingsCommand, Timers}
+use Rattle.sw_top.specs.declared.words.Command.TheVariants.{Drill as DrillCommand, Audit, Settings as SettingsCommand, Timers, Dump, Restore}
 use Rattle.sw_top.specs.Words.{command_of}
 use Rattle.sw_top.specs.Says.{FromSource, FromSink, IsInput, Meant, IsWritten}
 use Rattle.sw_play.specs.Rightly.{IsRightText}
@@ -15,6 +15,8 @@ IsRightFor (Some DrillCommand) s text = (input : List ℕ) × IsInput s input ×
 IsRightFor (Some Audit) s text = Unit {0}
 IsRightFor (Some SettingsCommand) s text = Unit {0}
 IsRightFor (Some Timers) s text = Unit {0}
+IsRightFor (Some Dump) s text = Unit {0}
+IsRightFor (Some Restore) s text = Unit {0}
 
 -- at Ok the text that was meant and written is such a text, if the words name a drill
 abbrev pub PrintsRight : List (List ℕ) → FromSource → FromSink → Status → Type 0
@@ -23,6 +25,7 @@ PrintsRight words s k (statuses.BadLine n) = Unit {0}
 PrintsRight words s k (statuses.Settings fault) = Unit {0}
 PrintsRight words s k statuses.InputLong = Unit {0}
 PrintsRight words s k (statuses.No at) = Unit {0}
+PrintsRight words s k (statuses.Unfit n name) = Unit {0}
 PrintsRight words s k statuses.Usage = Unit {0}
 PrintsRight words s k statuses.ReadFault = Unit {0}
 PrintsRight words s k statuses.WriteFault = Unit {0}

@@ -1,6 +1,5 @@
 -- What each status says of what was read and written.
 use Rattle.std.specs.Prelude.{◌≡◌, ℕ, ◌≤◌, ◌<◌, List, codes, length, take, Option, Some, None, Bool, true, Result, Ok, Err, ◌⊎◌}
-use Rattle.std.specs.Prelude.{string_bytes}
 use Rattle.std.specs.Io.KnownBytes.{Consumes, Appends, IsAtEnd}
 use Rattle.sw_causes.specs.Causes.{Rises}
 use Rattle.sw_causes.specs.Whole.{Came, IsLong, limit}
@@ -8,14 +7,18 @@ use Rattle.sw_audit.specs.declared.verdict.Verdict.TheVariants as verdicts
 use Rattle.sw_audit.specs.declared.verdict.AuditFault.TheVariants as faults
 use Rattle.sw_audit.specs.Verdicts.{IsAudit}
 use Rattle.sw_audit.specs.Printing.{verdict_text}
+use Rattle.sw_audit.specs.Finals.{IsFinalState}
+use Rattle.sw_tmodel.specs.Plain.{PlainTable}
+use Rattle.sw_dump.specs.Restores.{IsRestored}
+use Rattle.sw_dump.specs.declared.fault.RestoreFault.TheVariants as unfits
 use Rattle.sw_top.specs.declared.words.Command.{Command}
-use Rattle.sw_top.specs.declared.words.Command.TheVariants.{Drill as DrillCommand, Audit, Settings as SettingsCommand, Timers}
+use Rattle.sw_top.specs.declared.words.Command.TheVariants.{Drill as DrillCommand, Audit, Settings as SettingsCommand, Timers, Dump, Restore}
 use Rattle.sw_top.specs.Words.{command_of}
 use Rattle.sw_top.specs.Answering.{Answers}
 use Rattle.sw_answer.specs.declared.refusal.Refusal.{Refusal}
-use Rattle.sw_answer.specs.Refusals.{line_text, settings_text}
+use Rattle.sw_answer.specs.Refusals.{line_text, settings_text, unfit_text}
 use Rattle.sw_play.specs.Faults.{drill_fault}
-use Rattle.sw_answer.specs.declared.refusal.Refusal.TheVariants.{Line, Settings, Place}
+use Rattle.sw_answer.specs.declared.refusal.Refusal.TheVariants.{Line, Settings, Place, Unfit}
 use Rattle.sw_settings.specs.declared.faults.SettingsFault.{SettingsFault}
 use Rattle.sw_settings.specs.declared.values.Values.{Values}
 use Rattle.sw_settings_json.specs.Json.{json_settings}
@@ -48,7 +51,7 @@ pub record IsInput (s : FromSource) (input : List ℕ) : Type 0 where
 
 -- what comes of an input that was read whole
 abbrev pub IsOutcome : Command → List ℕ → Outcome → Type 0
-IsOutcome c input (outcomes.Done text) = Answers c input (Ok (string_bytes text))
+IsOutcome c input (outcomes.Done text) = Answers c input (Ok text)
 IsOutcome c input (outcomes.Refused refusal) = Answers c input (Err refusal)
 IsOutcome c input outcomes.Long = ⊥
 IsOutcome c input outcomes.Fault = ⊥
@@ -59,7 +62,7 @@ abbrev pub IsAnswered : Command → FromSource → Result (List ℕ) Refusal →
 IsAnswered c s r = (input : List ℕ) × IsInput s input × Answers c input r
 
 abbrev pub Comes : Command → FromSource → Outcome → Type 0
-Comes c s (outcomes.Done text) = IsAnswered c s (Ok (string_bytes text))
+Comes c s (outcomes.Done text) = IsAnswered c s (Ok text)
 Comes c s (outcomes.Refused refusal) = IsAnswered c s (Err refusal)
 Comes c s outcomes.Long = Came s.left s.left_new IsLong
 Comes c s outcomes.Fault = Came s.left s.left_new (λ n. n ≤ limit) × Rises s.faults s.faults_new
@@ -88,6 +91,7 @@ cut_status (statuses.BadLine n) = statuses.WriteFault
 cut_status (statuses.Settings fault) = statuses.WriteFault
 cut_status statuses.InputLong = statuses.WriteFault
 cut_status (statuses.No at) = statuses.WriteFault
+cut_status (statuses.Unfit n name) = statuses.WriteFault
 cut_status statuses.Usage = statuses.WriteFault
 cut_status statuses.ReadFault = statuses.WriteFault
 cut_status statuses.WriteFault = statuses.WriteFault
@@ -106,6 +110,7 @@ Due c s (statuses.BadLine n) text = IsAnswered c s (Err (Line n)) × (text ≡ l
 Due c s (statuses.Settings fault) text = IsAnswered c s (Err (Settings fault)) × (text ≡ settings_text fault)
 Due c s statuses.InputLong text = Came s.left s.left_new IsLong × (text ≡ codes "fault long\n")
 Due c s (statuses.No at) text = IsAnswered c s (Err (Place at)) × (text ≡ verdict_text (verdicts.No at))
+Due c s (statuses.Unfit n name) text = IsAnswered c s (Err (Unfit n name)) × (text ≡ unfit_text n name)
 Due c s statuses.Usage text = ⊥
 Due c s statuses.ReadFault text = Came s.left s.left_new (λ n. n ≤ limit) × Rises s.faults s.faults_new × (text ≡ codes "fault read\n")
 Due c s statuses.WriteFault text = ⊥
@@ -131,6 +136,7 @@ Said words s k (statuses.BadLine n) = (text : List ℕ) × Meant words s (status
 Said words s k (statuses.Settings fault) = (text : List ℕ) × Meant words s (statuses.Settings fault) text × IsWritten k text
 Said words s k statuses.InputLong = (text : List ℕ) × Meant words s statuses.InputLong text × IsWritten k text
 Said words s k (statuses.No at) = (text : List ℕ) × Meant words s (statuses.No at) text × IsWritten k text
+Said words s k (statuses.Unfit n name) = (text : List ℕ) × Meant words s (statuses.Unfit n name) text × IsWritten k text
 Said words s k statuses.Usage = (text : List ℕ) × Meant words s statuses.Usage text × IsWritten k text
 Said words s k statuses.ReadFault = (text : List ℕ) × Meant words s statuses.ReadFault text × IsWritten k text
 Said words s k statuses.WriteFault = (status : Status) × (text : List ℕ) × Meant words s status text × IsCut k text
@@ -152,6 +158,7 @@ Judged input (statuses.BadLine n) = IsAudit input (Err (faults.BadLine n))
 Judged input (statuses.Settings fault) = ⊥
 Judged input statuses.InputLong = ⊥
 Judged input (statuses.No at) = IsAudit input (Ok (verdicts.No at))
+Judged input (statuses.Unfit n name) = ⊥
 Judged input statuses.Usage = ⊥
 Judged input statuses.ReadFault = ⊥
 Judged input statuses.WriteFault = ⊥
@@ -167,12 +174,41 @@ abbrev pub timers_status : Result (List TimerLine) ℕ → Status
 timers_status (Ok lines) = statuses.Ok
 timers_status (Err n) = statuses.BadLine n
 
+-- the status of a trace whose Table is dumped: there is one, or its first line out of the grammar, or its least bad place
+abbrev pub Dumped : List ℕ → Status → Type 0
+Dumped input statuses.Ok = (p : PlainTable) × IsFinalState input (Ok (Ok p))
+Dumped input (statuses.BadLine n) = IsFinalState input (Err (faults.BadLine n))
+Dumped input (statuses.Settings fault) = ⊥
+Dumped input statuses.InputLong = ⊥
+Dumped input (statuses.No at) = IsFinalState input (Ok (Err at))
+Dumped input (statuses.Unfit n name) = ⊥
+Dumped input statuses.Usage = ⊥
+Dumped input statuses.ReadFault = ⊥
+Dumped input statuses.WriteFault = ⊥
+Dumped input statuses.OutOfMemory = ⊥
+
+-- the status of a dump that is restored: there is a trace, or its first line out of the grammar, or the first that the new columns
+-- refuse
+abbrev pub Restored : List ℕ → Status → Type 0
+Restored input statuses.Ok = (text : List ℕ) × IsRestored input (Ok text)
+Restored input (statuses.BadLine n) = IsRestored input (Err (unfits.BadLine n))
+Restored input (statuses.Settings fault) = ⊥
+Restored input statuses.InputLong = ⊥
+Restored input (statuses.No at) = ⊥
+Restored input (statuses.Unfit n name) = IsRestored input (Err (unfits.Unfit n name))
+Restored input statuses.Usage = ⊥
+Restored input statuses.ReadFault = ⊥
+Restored input statuses.WriteFault = ⊥
+Restored input statuses.OutOfMemory = ⊥
+
 -- the status that the input alone asks for
 abbrev pub Expected : Command → List ℕ → Status → Type 0
 Expected DrillCommand input status = status ≡ expected (drill_of input)
 Expected Audit input status = Judged input status
 Expected SettingsCommand input status = status ≡ settings_status (json_settings input)
 Expected Timers input status = status ≡ timers_status (lines_from 1 (lines_of input))
+Expected Dump input status = Dumped input status
+Expected Restore input status = Restored input status
 
 -- without a fault, an input that isn't too long is answered by its text alone, unless memory runs out
 abbrev pub IsComplete : List (List ℕ) → FromSource → FromSink → Status → Type 0

@@ -10,13 +10,14 @@ use crate::word::Word;
 use crate::words::{Command, command_of};
 use std::alloc::Global;
 use sw_answer::{Refusal, Status};
+use sw_base::Octets;
 use sw_causes::{InputFault, Sink, Source, read_whole, write_whole};
 
 /// What comes of reading the source and doing what it says.
 #[derive(Drop)]
 pub enum Outcome {
     /// This is to be written.
-    Done(String),
+    Done(Octets),
     /// The input is refused.
     Refused(Refusal),
     /// Too many bytes came.
@@ -73,7 +74,7 @@ fn run<S: Source, K: Sink>(alloc: Global, command: Command, source: &mut S, sink
         (record { taken = K.taken sink.old; taken_new = K.taken sink.new; faults = K.faults sink.old; faults_new = K.faults sink.new }) result }
 {
     match read_and_run(alloc, command, source) {
-        Outcome::Done(text) => finish(sink, Status::Ok, text.as_bytes()),
+        Outcome::Done(text) => finish(sink, Status::Ok, text.bytes()),
         Outcome::Refused(refusal) => match refusal.text(alloc) {
             Ok(text) => finish(sink, refusal.status(), text.bytes()),
             Err(_) => finish(sink, Status::OutOfMemory, b"fault memory\n"),
@@ -98,11 +99,13 @@ fn work<S: Source, K: Sink>(alloc: Global, words: &[Word], source: &mut S, sink:
 
 /// Does what the words name with what the source gives, writes one text to the sink, and answers how it ended. The commands
 /// are `drill`, which plays the schedule that it reads and prints the record, `audit`, which judges the trace that it reads and
-/// prints its verdict, `settings`, which prints each key with its value, and `timers`, which plays lines on timers and prints
-/// what they answer. It waits for nobody and returns.
+/// prints its verdict, `settings`, which prints each key with its value, `timers`, which plays lines on timers and prints
+/// what they answer, `dump`, which prints the Table that a trace leaves, and `restore`, which prints the trace that puts a dump into
+/// another Table. It waits for nobody and returns.
 ///
-/// Usage comes first; then ReadFault or InputLong, while reading; then BadLine; then Settings; then the run, and No. WriteFault
-/// comes only where the sink failed, and replaces any other status but OutOfMemory. The text is made whole before it is written.
+/// Usage comes first; then ReadFault or InputLong, while reading; then BadLine; then Settings; then the run, and No or Unfit.
+/// WriteFault comes only where the sink failed, and replaces any other status but OutOfMemory. The text is made whole before it is
+/// written.
 pub fn tool<S: Source, K: Sink>(
     alloc: Global,
     words: &[Word],

@@ -17,6 +17,10 @@ pub enum Command {
     Settings,
     /// Lines on timers are played, and what they answer is printed.
     Timers,
+    /// The Table that a trace leaves is printed.
+    Dump,
+    /// A dump is put into another Table, and the trace of that is printed.
+    Restore,
 }
 
 fn named(word: &[u8]) -> Option<Command>
@@ -30,6 +34,10 @@ fn named(word: &[u8]) -> Option<Command>
         Some(Command::Settings)
     } else if is(word, "timers") {
         Some(Command::Timers)
+    } else if is(word, "dump") {
+        Some(Command::Dump)
+    } else if is(word, "restore") {
+        Some(Command::Restore)
     } else {
         None
     }

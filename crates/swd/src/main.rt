@@ -10,7 +10,9 @@ use sw_top::command_line;
 const USAGE: &str = "usage: swd drill     reads a schedule, plays it and prints the record
        swd settings  reads a JSON object and prints all settings
        swd audit     reads a trace of calls of the Table and judges it
-       swd timers    reads lines on timers, plays them and prints what they answer";
+       swd timers    reads lines on timers, plays them and prints what they answer
+       swd dump      reads a trace and prints the Table that it leaves
+       swd restore   reads a dump and prints the trace that puts it into another Table";
 
 /// The exit status of words that are no command.
 const IS_USAGE: u8 = 2;

@@ -15,7 +15,7 @@ returns c =
     let shape : c.fill.new.self.shape ≡ store.shape = c.fill.ensures.shape ∙ ap (λ (s : Stored). s.shape) c.add.ensures.entries in
     let miss : map.get (state_of store.entries) key ≡ None = subst (λ (p : PlainTable). map.get p.state key ≡ None) (sym v) c.requires.missing in
     let room : has_room store.shape (state_of store.entries) key ≡ true =
-    subst (λ n. has_room (record { columns = store.shape.columns; size = store.shape.size; pool = n }) (state_of store.entries) key ≡ true) (sym c.self.invariant.0)
+    subst (λ n. has_room (record { columns = store.shape.columns; size = store.shape.size; pool = n }) (state_of store.entries) key ≡ true) (sym c.self.invariant.1)
     (subst (λ (p : PlainTable). has_room (shape_of p) p.state key ≡ true) (sym v) c.requires.room) in
     let place = new_place store c.add.new.self key c.len-at.result miss room c.len-at.ensures.places c.add.ensures.entries c.add.ensures.state in
     let state : state_of c.fill.new.self.entries ≡ map.insert (state_of store.entries) key row = c.fill.ensures.state ∙ ap (λ k. map.insert (state_of c.add.new.self.entries) k row) place.2 ∙ place.4 row in

@@ -1,0 +1,12 @@
+pub mod Peel
+pub mod Cuts
+pub mod Items
+pub mod Words
+pub mod Heads
+pub mod Sets
+pub mod Lines
+pub mod Verdicts
+pub mod RowSteps
+pub mod CallSteps
+pub mod Refills
+pub mod Sound

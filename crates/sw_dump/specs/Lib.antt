@@ -1,0 +1,4 @@
+pub mod Texts
+pub mod Grammar
+pub mod Reading
+pub mod Restores
