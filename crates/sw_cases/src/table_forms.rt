@@ -62,11 +62,21 @@ fn put_both(out: &mut String, plain: &str, shared: &str) -> Result<(), OutOfMemo
     Ok(writeln!(out, "{plain} | {shared}")?)
 }
 
-/// What the exchange of a lock came to.
-fn put_taken(out: &mut String, taken: Option<u64>) -> Result<(), OutOfMemory> {
+/// What taking a lock came to.
+#[derive(Clone, Copy)]
+enum Taken {
+    Now,
+    /// The seat holds it already.
+    Before,
+    /// The exchange found this number.
+    ByOther(u64),
+}
+
+fn put_taken(out: &mut String, taken: Taken) -> Result<(), OutOfMemory> {
     match taken {
-        None => Ok(out.push_str("- | held\n")?),
-        Some(found) => Ok(writeln!(out, "- | taken {found}")?),
+        Taken::Now => Ok(out.push_str("- | held\n")?),
+        Taken::Before => Ok(out.push_str("- | held before\n")?),
+        Taken::ByOther(found) => Ok(writeln!(out, "- | taken {found}")?),
     }
 }
 
@@ -75,38 +85,38 @@ fn is_busy(answer: &Result<Placed, CallFault>) -> bool {
 }
 
 impl Holder {
-    /// Takes a row, where it holds none, or tells as what the lock was found.
-    fn hold_row(&mut self, table: &Table, row: u32) -> Option<u64>
+    /// Takes a row, where it holds none.
+    fn hold_row(&mut self, table: &Table, row: u32) -> Taken
         requires holder { IsHolder table.now self.old }
         requires near { row < table.now.size }
         ensures { IsHolder table.now self.new }
     {
         if self.row.is_some() {
-            return Some(1);
+            return Taken::Before;
         }
         match table.locks().try_row(&mut self.seat, row) {
             Ok(bucket) => {
                 self.row = Some((row, bucket));
-                None
+                Taken::Now
             }
-            Err(found) => Some(found),
+            Err(found) => Taken::ByOther(found),
         }
     }
 
-    /// Takes the pool, where it doesn't hold it, or tells as what the lock was found.
-    fn hold_pool(&mut self, table: &Table) -> Option<u64>
+    /// Takes the pool, where it doesn't hold it.
+    fn hold_pool(&mut self, table: &Table) -> Taken
         requires { IsHolder table.now self.old }
         ensures { IsHolder table.now self.new }
     {
         if self.pool.is_some() {
-            return Some(1);
+            return Taken::Before;
         }
         match table.locks().try_pool(&mut self.seat) {
             Ok(pool) => {
                 self.pool = Some(pool);
-                None
+                Taken::Now
             }
-            Err(found) => Some(found),
+            Err(found) => Taken::ByOther(found),
         }
     }
 
@@ -138,7 +148,10 @@ fn ask(table: &Table, seat: &mut Seat, call: &Call, row: &mut RowBuf) -> Result<
     ensures seat { IsReady table.now 1 seat.new }
     ensures row { HasKinds table.now.columns row.new }
 {
-    table.try_call(seat, call, row)
+    match table.try_call(seat, call, row) {
+        Ok(placed) => Ok(placed),
+        Err(fault) => Err(fault),
+    }
 }
 
 /// Makes a call by a holder, where it holds nothing.

@@ -1,6 +1,7 @@
 //! A thread that makes calls.
 ghost use Rattle.std.specs.Prelude.{◌≡◌, None, IfOk};
 ghost use Rattle.sw_column.specs.Fit.{call_fault};
+ghost use Rattle.sw_column.specs.Values.{HasKinds};
 ghost use Rattle.sw_table_join.specs.Tables.{IsReady};
 ghost use Rattle.sw_table_uses.specs.Players.{IsPlayer, KeepsFit};
 
@@ -115,7 +116,7 @@ impl Player {
         ensures { IsPlayer table.now self.new }
     {
         for call in calls {
-            let _ = self.ask(rt, table, call);
+            let _ = ask(rt, table, &mut self.seat, call, &mut self.row);
         }
     }
 
@@ -124,19 +125,10 @@ impl Player {
         requires { IsPlayer table.now self.old }
         ensures { IfOk result (λ _. IsPlayer table.now self.new) }
     {
-        match self.ask(rt, table, call) {
+        match ask(rt, table, &mut self.seat, call, &mut self.row) {
             Err(_) => Ok(()),
             Ok(placed) => self.keep(call, placed),
         }
-    }
-
-    // Makes a call.
-    fn ask<R: Wait>(&mut self, rt: &R, table: &Table, call: &Call) -> Result<Placed, CallFault>
-        requires { IsPlayer table.now self.old }
-        ensures player { IsPlayer table.now self.new }
-        ensures fit { IfOk result (λ _. call_fault table.now.columns call.now ≡ None) }
-    {
-        table.call(rt, &mut self.seat, call, &mut self.row)
     }
 
     // Keeps a line.
@@ -159,6 +151,26 @@ impl Player {
             },
         })?;
         Ok(())
+    }
+}
+
+// Makes a call.
+fn ask<R: Wait>(
+    rt: &R,
+    table: &Table,
+    seat: &mut Seat,
+    call: &Call,
+    row: &mut RowBuf,
+) -> Result<Placed, CallFault>
+    requires seat { IsReady table.now 1 seat.old }
+    requires row { HasKinds table.now.columns row.old }
+    ensures seat { IsReady table.now 1 seat.new }
+    ensures row { HasKinds table.now.columns row.new }
+    ensures fit { IfOk result (λ _. call_fault table.now.columns call.now ≡ None) }
+{
+    match table.call(rt, seat, call, row) {
+        Ok(placed) => Ok(placed),
+        Err(fault) => Err(fault),
     }
 }
 
