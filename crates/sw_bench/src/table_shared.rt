@@ -16,7 +16,7 @@ use std::time::Instant;
 use sw_base::{Call, Key, Name, OutOfMemory, Pairs, Value};
 use sw_column::{Kind, Schema};
 use sw_table::{Hands, Seat, Table, create};
-use sw_table_uses::{Load, Pair, Player, four, four_players, one, pair, player, two};
+use sw_table_uses::{Load, Pair, Player, four, four_players, new_player, one, pair, two};
 
 /// How often each thread makes the calls of its list.
 const TIMES: u64 = 300_000;
@@ -163,8 +163,8 @@ fn crowd(
     requires seat { IsReady table.now 1 seat.old }
     ensures { IfOk result (λ c. IsPlayer table.now c.first × IsPlayer table.now c.one × ArePlayers table.now c.two × FourPlayers table.now c.four) }
 {
-    let first = player(alloc, table, schema, hands, seat, 0)?;
-    let one = player(alloc, table, schema, hands, seat, 0)?;
+    let first = new_player(alloc, table, schema, hands, seat, 0)?;
+    let one = new_player(alloc, table, schema, hands, seat, 0)?;
     let two = pair(alloc, table, schema, hands, seat, 0)?;
     let four = four_players(alloc, table, schema, hands, seat, 0)?;
     Ok(Crowd {

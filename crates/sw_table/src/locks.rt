@@ -7,6 +7,7 @@ use crate::table::{Seat, Table};
 use sw_bucket::{Bucket, Pool};
 
 /// Four calls of a Table's locks. What was taken is given back unchanged.
+#[derive(Drop)]
 pub struct Locks<'a> {
     table: &'a Table,
 }

@@ -9,4 +9,4 @@ mod tests;
 
 pub use crowd::{Ended, Pair, Played, eight, four, one, two};
 pub use player::{Load, Player};
-pub use runs::{Outcome, four_players, pair, player, run_eight, run_two};
+pub use runs::{Outcome, four_players, new_player, pair, run_eight, run_two};

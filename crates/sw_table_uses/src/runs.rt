@@ -30,7 +30,7 @@ pub struct Outcome {
 }
 
 /// A further player of a Table, which is called so.
-pub fn player(
+pub fn new_player(
     alloc: Global,
     table: &Table,
     schema: &Schema,
@@ -70,8 +70,8 @@ pub fn pair(
     ensures first { first.new ≡ first.old }
     ensures players { IfOk result (ArePlayers table.now) }
 {
-    let a = player(alloc, table, schema, hands, first, caller)?;
-    let b = player(alloc, table, schema, hands, first, caller + 1)?;
+    let a = new_player(alloc, table, schema, hands, first, caller)?;
+    let b = new_player(alloc, table, schema, hands, first, caller + 1)?;
     Ok((a, b))
 }
 
