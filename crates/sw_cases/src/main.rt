@@ -18,6 +18,7 @@ mod record;
 mod set;
 mod show;
 mod table;
+mod table_forms;
 mod tool;
 
 use std::io;

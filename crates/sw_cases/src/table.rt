@@ -1,25 +1,14 @@
-//! Cases of the plain Table: calls in, their places and replies out.
-ghost use Rattle.std.specs.Prelude.{◌≡◌, ◌≤◌};
-ghost use Rattle.sw_column.specs.Values.{HasKinds};
+//! Cases of the Table: calls in, and out of both forms, the plain one and the one that threads share, their places and replies.
+ghost use Rattle.sw_cases.specs.Forms.{AreOpen, AreClosed};
 
 use crate::case::{Case, bytes_of};
-use crate::printed_calls::put_reply;
+use crate::table_forms::{Closed, Forms};
 use std::alloc::Global;
-use sw_base::{Call, CallFault, OutOfMemory};
+use sw_base::OutOfMemory;
 use sw_call::{call, columns, schema};
-use sw_column::{RowBuf, Schema};
-use sw_port_shelf::Placed;
-use sw_text::number_within;
-use sw_tmodel::Plain;
-
-/// Makes a call.
-fn ask(plain: &mut Plain, row: &mut RowBuf, call: &Call) -> Result<Placed, CallFault>
-    requires { HasKinds plain.old.columns row.old }
-    ensures columns { plain.new.columns ≡ plain.old.columns }
-    ensures kinds { HasKinds plain.old.columns row.new }
-{
-    plain.call(call, row)
-}
+use sw_column::Schema;
+use sw_table::CloseFault;
+use sw_text::{cut, number, number_within};
 
 /// The columns that a text is, where a schema takes them.
 fn schema_of(alloc: Global, text: &[u8]) -> Result<Option<Schema>, OutOfMemory> {
@@ -32,49 +21,101 @@ fn schema_of(alloc: Global, text: &[u8]) -> Result<Option<Schema>, OutOfMemory> 
     }
 }
 
-fn put_answer(
+/// What a line comes to while the shared form is open.
+fn put_line(
+    alloc: Global,
     out: &mut String,
-    row: &RowBuf,
-    answer: Result<Placed, CallFault>,
-) -> Result<(), OutOfMemory> {
-    match answer {
-        Ok(placed) => {
-            write!(out, "{} ", placed.at)?;
-            put_reply(out, &placed.reply, row.cells()?.as_slice())?;
-            Ok(out.push_str("\n")?)
-        }
-        Err(fault) => Ok(writeln!(out, "refused {fault:?}")?),
+    forms: &mut Forms,
+    text: &[u8],
+) -> Result<(), OutOfMemory>
+    requires { AreOpen forms.old }
+    ensures { AreOpen forms.new }
+{
+    match cut(text, b' ') {
+        (b"hold", Some(b"pool")) => forms.hold_pool(out),
+        (b"hold", Some(row)) => forms.hold_row(out, number(row).unwrap_or(0)),
+        (b"give", None) => forms.give(out),
+        (b"b", Some(text)) => put_call(alloc, out, forms, text, true),
+        _ => put_call(alloc, out, forms, text, false),
     }
 }
 
-/// Makes the calls of the lines on a Table with these columns.
-fn put_calls(
+/// What a call comes to, by the first seat or by the second.
+fn put_call(
+    alloc: Global,
     out: &mut String,
-    plain: &mut Plain,
-    row: &mut RowBuf,
-    calls: &[Option<Call>],
+    forms: &mut Forms,
+    text: &[u8],
+    second: bool,
 ) -> Result<(), OutOfMemory>
-    requires { HasKinds plain.old.columns row.old }
+    requires { AreOpen forms.old }
+    ensures { AreOpen forms.new }
 {
-    for call in calls {
-        match call {
-            Some(call) => {
-                let answer = ask(plain, row, call);
-                put_answer(out, row, answer)?;
-            }
-            None => out.push_str("no call\n")?,
+    match call(alloc, text)? {
+        None => Ok(out.push_str("no call\n")?),
+        Some(call) => if second {
+            forms.put_second(alloc, out, &call)
+        } else {
+            forms.put_first(alloc, out, &call)
+        },
+    }
+}
+
+/// The lines with this mark, without it.
+fn marked(
+    alloc: Global,
+    case: &Case,
+    mark: &str,
+    filler: &[u8],
+) -> Result<Vec<Vec<u8>>, OutOfMemory> {
+    let mut texts = Vec::new(alloc);
+    for line in &case.lines {
+        if line.starts_with(mark) {
+            texts.push(bytes_of(alloc, line, filler)?)?;
+        }
+    }
+    Ok(texts)
+}
+
+/// What the lines come to while the shared form is open.
+fn put_lines(
+    alloc: Global,
+    out: &mut String,
+    forms: &mut Forms,
+    texts: &[Vec<u8>],
+) -> Result<(), OutOfMemory>
+    requires { AreOpen forms.old }
+    ensures { AreOpen forms.new }
+{
+    for text in texts {
+        put_line(alloc, out, forms, text)?;
+    }
+    Ok(())
+}
+
+/// What calls come to once the shared form is closed.
+fn put_behind(
+    alloc: Global,
+    out: &mut String,
+    closed: Closed,
+    texts: &[Vec<u8>],
+) -> Result<(), OutOfMemory>
+    requires { AreClosed closed }
+{
+    let mut closed = closed;
+    for text in texts {
+        if let Some(call) = call(alloc, text)? {
+            closed.put(alloc, out, &call)?;
         }
     }
     Ok(())
 }
 
-fn calls_of(alloc: Global, case: &Case, filler: &[u8]) -> Result<Vec<Option<Call>>, OutOfMemory> {
-    let mut calls = Vec::new(alloc);
-    for line in &case.lines {
-        let text = bytes_of(alloc, line, filler)?;
-        calls.push(call(alloc, &text)?)?;
+fn put_short(out: &mut String, fault: CloseFault) -> Result<(), OutOfMemory> {
+    match fault {
+        CloseFault::Short(made, given, _, _) => Ok(writeln!(out, "short {made} {given}")?),
+        CloseFault::OutOfMemory(_, _) => Err(OutOfMemory),
     }
-    Ok(calls)
 }
 
 /// Plays the case: `table SIZE PERCENT CALLS COLUMNS`, with the number of rows, the percent of the pool, and how many calls
@@ -98,8 +139,14 @@ pub fn put(
     ) else {
         return Ok(out.push_str("no Table\n")?);
     };
-    let mut row = RowBuf::make(alloc, &schema)?;
-    let mut plain = Plain::make(alloc, schema, size as u32, percent as u32, last_call)?;
-    let calls = calls_of(alloc, case, filler)?;
-    put_calls(out, &mut plain, &mut row, &calls)
+    let mut forms = Forms::make(alloc, schema, size as u32, percent as u32, last_call)?;
+    let texts = marked(alloc, case, ">", filler)?;
+    put_lines(alloc, out, &mut forms, &texts)?;
+    match forms.close(alloc, case.option("close") == "1")? {
+        Ok(closed) => {
+            let texts = marked(alloc, case, "+", filler)?;
+            put_behind(alloc, out, closed, &texts)
+        }
+        Err(fault) => put_short(out, fault),
+    }
 }

@@ -5,3 +5,4 @@ pub mod Draining
 pub mod Waiting
 pub mod Notes
 pub mod Made
+pub mod Lending

@@ -7,6 +7,7 @@ ghost use Rattle.sw_table.specs.Waiting.{GivenUp, is_busy};
 
 use crate::calls::TableCalls;
 use crossbeam_utils::Backoff;
+use std::hint;
 use std::marker::{Brand, Model};
 use std::sync::Wait;
 use sw_base::{Call, CallFault};
@@ -52,6 +53,18 @@ impl Model for Table {
     ghost use Rattle.sw_table_laws.specs.Sizes.{raised};
 
     ghost invariant = { λ t. IsShared (record { columns = t.schema; size = t.size; percent = t.percent; last_call = t.last_call; locks = t.locks }) × (t.blank_row ≡ blank t.schema) × (raised t.size ≡ t.size) };
+}
+
+// How long a call that was found busy lets the others go on, at first. Threads that try again at once take the sequence word's
+// cache line from each other for nothing: who has it makes some calls in a row meanwhile.
+const SPINS: u32 = 16;
+
+// Waits a moment, and longer each time.
+fn stand_back(backoff: &Backoff) {
+    for _ in 0..SPINS {
+        hint::spin_loop();
+    }
+    backoff.snooze();
 }
 
 fn is_busy(fault: CallFault) -> bool
@@ -115,7 +128,7 @@ impl Table {
             match self.try_call(seat, call, row) {
                 Ok(placed) => return Ok(placed),
                 Err(fault) => if is_busy(fault) {
-                    backoff.snooze();
+                    stand_back(&backoff);
                 } else {
                     return Err(fault);
                 },
