@@ -1,10 +1,11 @@
 -- A worker or a task worker with its ports, as it may take its next turn.
-use Rattle.std.specs.Prelude.{ℕ, List}
+use Rattle.std.specs.Prelude.{ℕ, ◌<◌, ◌≤◌, List}
 use Rattle.sw_column.specs.declared.column.Column.{Column}
 use Rattle.sw_port_board.specs.PlainBoard.{PlainWords}
 use Rattle.sw_port_board.specs.declared.crew.Crew.{Crew}
 use Rattle.sw_port_board.specs.declared.crew.Sizes.{Sizes}
 use Rattle.sw_hand.specs.Hand.{IsCrew, HasRow}
+use Rattle.sw_hand.specs.declared.house.House.{House}
 use Rattle.sw_case_ports.specs.declared.book.CaseBook.{CaseBook}
 use Rattle.sw_actor_cases.specs.declared.playing.Actor.{Actor}
 use Rattle.sw_actor_cases.specs.declared.playing.Actor.TheVariants.{Worker, Tasker}
@@ -25,3 +26,7 @@ pub record Played : Type 0 where
   pub own : ℕ
   pub crew : Crew
   pub number : ℕ
+
+-- there are descriptors and reactors, and no more actors of a kind than there may be
+abbrev pub IsSmall : House → Type 0
+IsSmall h = (0 < h.max_conn) × (0 < h.reactors) × (h.reactors ≤ 64) × (h.workers ≤ 64) × (h.taskers ≤ 64)

@@ -1,9 +1,10 @@
 //! What an actor asks of the pipes, printed.
 
-use sw_base::OutOfMemory;
+use sw_base::{OutOfMemory, Session};
 use sw_data::{Ask, Msg, Target};
-use sw_log_text::{put_bytes_behind, put_event, put_session};
+use sw_log_text::put_event;
 use sw_port_book::Ticketed;
+use sw_text::put_bytes;
 
 fn put_target(out: &mut String, target: Target) -> Result<(), OutOfMemory> {
     match target {
@@ -13,19 +14,24 @@ fn put_target(out: &mut String, target: Target) -> Result<(), OutOfMemory> {
     }
 }
 
+fn put_session(out: &mut String, word: &str, session: Session) -> Result<(), OutOfMemory> {
+    Ok(write!(out, "{word} {}", session.number())?)
+}
+
 fn put_message<L, K: Ticketed>(out: &mut String, message: &Msg<L, K>) -> Result<(), OutOfMemory> {
     match message {
         Msg::Fresh(_, ip, ticket) => {
-            put_session(out, "fresh ", ticket.session())?;
+            put_session(out, "fresh", ticket.session())?;
             Ok(write!(out, " {ip}")?)
         }
         Msg::Send(session, bytes) => {
-            put_session(out, "send ", *session)?;
-            put_bytes_behind(out, bytes.bytes())
+            put_session(out, "send", *session)?;
+            out.push_str(" ")?;
+            Ok(put_bytes(out, bytes.bytes())?)
         }
-        Msg::Close(session) => put_session(out, "close ", *session),
-        Msg::Reset(session) => put_session(out, "reset ", *session),
-        Msg::Bye(session) => put_session(out, "bye ", *session),
+        Msg::Close(session) => put_session(out, "close", *session),
+        Msg::Reset(session) => put_session(out, "reset", *session),
+        Msg::Bye(session) => put_session(out, "bye", *session),
         Msg::Event(event) => put_event(out, event),
         Msg::Over(id) => Ok(write!(out, "over {id}")?),
         Msg::NoMore => Ok(out.push_str("nomore")?),

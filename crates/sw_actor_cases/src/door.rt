@@ -5,7 +5,7 @@ use crate::ended::put_ended;
 use crate::numbers::{small_of, text_of};
 use crate::ports::CaseDesk;
 use std::alloc::Global;
-use sw_base::{Counter, OutOfMemory, Session};
+use sw_base::{Counter, OutOfMemory};
 use sw_case_ports::{CaseEnds, CaseTicket};
 use sw_case_texts::{Case, session, small};
 use sw_data::{Ask, Got, Msg};

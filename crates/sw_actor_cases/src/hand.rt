@@ -1,24 +1,24 @@
 //! Cases of a worker and of a task worker: their turns, with what book, Table, board and handler answer.
 
+ghost use Rattle.std.specs.Prelude.{◌<◌, IsTrue, IfOk, length};
+ghost use Rattle.sw_actor_cases.specs.Play.{IsSmall};
+
 use crate::asks::put_ask;
 use crate::messages::message;
 use crate::numbers::{number_of, small_of, text_of};
 use crate::playing::{Actor, CaseHandler, CaseMessage, Play};
-use crate::ports::{CaseShelf, Starving};
+use crate::ports::Starving;
 use std::alloc::Global;
 use sw_base::{CallFault, Counter, OutOfMemory, WordId};
 use sw_call::{columns, schema};
 use sw_case_texts::{Case, small};
-use sw_column::{RowBuf, Schema};
+use sw_column::Schema;
 use sw_data::{Ask, Got};
 use sw_hand::House;
 use sw_handler::Logged;
 use sw_script::{Script, ScriptFault, read};
 use sw_scripted::Scripted;
-use sw_tasker::Tasker;
 use sw_text::number;
-use sw_tmodel::Plain;
-use sw_worker::Worker;
 
 /// What a turn asks, where it could be made.
 type Turned = Option<Ask<CaseMessage>>;
@@ -62,7 +62,9 @@ fn start_of(words: &str) -> Start {
 }
 
 /// Whether the numbers of actors are in range.
-fn is_small(house: &House) -> bool {
+fn is_small(house: &House) -> bool
+    ensures { IsTrue result → IsSmall house.now }
+{
     house.max_conn > 0
         && house.reactors > 0
         && house.reactors <= 64
@@ -105,11 +107,9 @@ fn handler_of(alloc: Global, script: Script, starve: Option<u64>) -> CaseHandler
     Logged::new(alloc, inner)
 }
 
-fn handlers_of(
-    alloc: Global,
-    script: Script,
-    start: Start,
-) -> Result<Vec<CaseHandler>, OutOfMemory> {
+fn handlers_of(alloc: Global, script: Script, start: Start) -> Result<Vec<CaseHandler>, OutOfMemory>
+    ensures { IfOk result (λ handlers. 0 < length handlers.items) }
+{
     let mut handlers = Vec::new(alloc);
     for _ in 1..start.generations {
         handlers.push(handler_of(alloc, script.copy()?, start.starve))?;

@@ -2,6 +2,7 @@
 
 use std::alloc::Global;
 use sw_base::{Octets, OutOfMemory};
+use sw_case_texts::{octets, small};
 use sw_text::number_within;
 
 /// The text that a setting has, if it stands there.
@@ -24,14 +25,17 @@ pub fn number_of(words: &str, name: &str, most: u64, other: u64) -> u64 {
     }
 }
 
-/// The same of 32 bits.
+/// The number of 32 bits that a setting has, and else another number.
 pub fn small_of(words: &str, name: &str, other: u32) -> u32 {
-    number_of(words, name, 4_294_967_295, other as u64) as u32
+    match text_of(words, name) {
+        Some(text) => small(text.as_bytes()).unwrap_or(other),
+        None => other,
+    }
 }
 
 /// The bytes that a setting has; none where it doesn't stand there.
 pub fn octets_of(alloc: Global, words: &str, name: &str) -> Result<Octets, OutOfMemory> {
     let text = text_of(words, name).unwrap_or("-");
-    let octets = sw_case_texts::octets(alloc, text.as_bytes())?;
-    Ok(octets.unwrap_or(Octets::new(alloc)))
+    let found = octets(alloc, text.as_bytes())?;
+    Ok(found.unwrap_or(Octets::new(alloc)))
 }

@@ -2,7 +2,7 @@
 
 ghost use Rattle.std.specs.Prelude.{◌≡◌, ◌<◌, ◌≤◌, ◌+◌, length, IfOk};
 ghost use Rattle.sw_hand.specs.Hand.{IsCrew};
-ghost use Rattle.sw_hand.specs.House.{IsHouse};
+ghost use Rattle.sw_actor_cases.specs.Play.{IsSmall};
 
 use crate::ports::{CaseShelf, Starving};
 use std::alloc::Global;
@@ -70,9 +70,7 @@ pub struct Effects {
 }
 
 fn board_of(alloc: Global, house: &House, own: u32) -> Result<PlainBoard, OutOfMemory>
-    requires reactors { house.now.reactors ≤ 64 }
-    requires workers { house.now.workers ≤ 64 }
-    requires taskers { house.now.taskers ≤ 64 }
+    requires { IsSmall house.now }
     ensures { IfOk result (λ board. IsCrew house.now board.sizes) }
 {
     let actors = house.workers + house.taskers + house.reactors + 1;
@@ -107,10 +105,7 @@ impl Play {
         house: House,
     ) -> Result<Play, OutOfMemory>
         requires some { 0 < length handlers.items }
-        requires house { IsHouse house }
-        requires reactors { house.reactors ≤ 64 }
-        requires workers { house.workers ≤ 64 }
-        requires taskers { house.taskers ≤ 64 }
+        requires small { IsSmall house }
     {
         let row = RowBuf::make(alloc, &schema)?;
         let board = board_of(alloc, &house, number)?;
@@ -135,10 +130,7 @@ impl Play {
         schema: Schema,
         house: House,
     ) -> Result<Play, OutOfMemory>
-        requires house { IsHouse house }
-        requires reactors { house.reactors ≤ 64 }
-        requires workers { house.workers ≤ 64 }
-        requires taskers { house.taskers ≤ 64 }
+        requires small { IsSmall house }
         requires number { number < house.taskers }
     {
         let row = RowBuf::make(alloc, &schema)?;

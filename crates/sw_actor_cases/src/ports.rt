@@ -1,6 +1,7 @@
 //! Ports whose answers a case gives: a desk, a Table that refuses, and a handler that wants memory.
 
 ghost use Rattle.std.specs.Prelude.{◌≡◌, IfOk};
+ghost use Rattle.sw_port_shelf.specs.Shelf.{is_of_place};
 
 use std::alloc::Global;
 use sw_base::{Call, CallFault, OutOfMemory, Session};
@@ -23,8 +24,6 @@ pub struct CaseDesk {
 }
 
 impl Desk for CaseDesk {
-    ghost use Rattle.std.specs.Prelude.{⊥};
-
     type Ticket = CaseTicket;
 
     ghost size = { λ d. d.size };
@@ -61,7 +60,7 @@ pub struct CaseShelf {
 }
 
 fn is_of_place(fault: &CallFault) -> bool
-    ensures { result ≡ Rattle.sw_port_shelf.specs.Shelf.is_of_place fault.now }
+    ensures { result ≡ is_of_place fault.now }
 {
     match fault {
         CallFault::Busy(_, _) => true,
@@ -111,7 +110,7 @@ impl<H: Handler> Handler for Starving<H> {
     fn next(&mut self, alloc: Global, given: &Given) -> Result<Act, OutOfMemory> {
         match self.left {
             Some(0) => return Err(OutOfMemory),
-            Some(n) => self.left = Some(n - 1),
+            Some(n) => self.left = Some(n.saturating_sub(1)),
             None => {}
         }
         self.inner.next(alloc, given)

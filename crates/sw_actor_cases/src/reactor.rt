@@ -10,7 +10,7 @@ use crate::numbers::{number_of, octets_of, small_of, text_of};
 use crate::watched::Watched;
 use std::alloc::Global;
 use std::mem::replace;
-use sw_base::{Counter, Octets, OutOfMemory, Session};
+use sw_base::{Counter, OutOfMemory, Session};
 use sw_case_ports::{CaseTicket, Scene};
 use sw_case_texts::{Case, session, small};
 use sw_conn::Terms;

@@ -185,11 +185,16 @@ fn print_packets<R: Print + Clock>(rt: &R, alloc: Global, conns: u32) -> io::Res
     )
 }
 
+/// The session of a send, another one each time.
+fn session_of(at: u64, conns: u32) -> Option<Session> {
+    let place = at.wrapping_mul(2_654_435_761).checked_rem(conns as u64)?;
+    Session::new(u32::try_from(place).ok()?.saturating_add(1))
+}
+
 /// Settles so many sends.
 fn settle(alloc: Global, driver: &mut Driver, conns: u32) {
     for at in 0..SENDS {
-        let number = at.wrapping_mul(2_654_435_761) % (conns as u64).max(1);
-        if let Some(session) = Session::new((number as u32).saturating_add(1)) {
+        if let Some(session) = session_of(at, conns) {
             if let Ok(bytes) = Vec::from_slice(alloc, b"7".as_slice()) {
                 let message = Msg::Send(session, Octets::of(bytes));
                 driver.scene.settle(alloc, Got::Took(message));

@@ -1,12 +1,14 @@
 -- Tickets that are apart stay so with one more whose slot no connection has.
-use Rattle.std.proofs.Common.{◌≡◌, ◌≢◌, ℕ, zero, suc, List, [], ◌∷◌, ◌++◌, length, map, append-nil, slice_get, Option, Some, None, refl, sym, ap, ◌∙◌, subst, ◌⊎◌, inl, inr}
+use Rattle.std.proofs.Common.{◌≡◌, ◌≢◌, ℕ, zero, suc, ◌+◌, ◌<◌, ◌%◌, List, [], ◌∷◌, ◌++◌, length, map, append-nil, slice_get, Option, Some, None, refl, sym, ap, ◌∙◌, subst, arith, ◌⊎◌, inl, inr}
 use Rattle.sw_conn.specs.declared.conn.Conn.{Conn}
 use Rattle.sw_reactor.proofs.Keeping.{some_is}
-use Rattle.sw_reactor.proofs.Slots.{not_none}
+use Rattle.std.proofs.lemmas.Option.{slice_get_within}
+use Rattle.sw_reactor.proofs.Slots.{not_none, same_or_not}
 use Rattle.sw_reactor.specs.Line.{Lined}
-use Rattle.sw_reactor.specs.Ready.{AreApart, tickets_of}
+use Rattle.sw_reactor.specs.Ready.{IsReady, AreApart, tickets, tickets_of}
+use Rattle.sw_reactor.specs.declared.reactor.Reactor.{Reactor}
 use Rattle.sw_case_ports.specs.Book.{Holds, Differ}
-use Rattle.sw_case_ports.specs.Scene.{IsFreeSlot}
+use Rattle.sw_case_ports.specs.Scene.{IsFreeSlot, MayTurn, number_of}
 use Rattle.sw_case_ports.specs.declared.book.CaseBook.{CaseBook}
 use Rattle.sw_case_ports.specs.declared.ticket.CaseTicket.{CaseTicket}
 
@@ -54,3 +56,26 @@ pub apart_none : (b : CaseBook) (ts us : List CaseTicket) → AreApart Holds Dif
 apart_none b ts us a e =
     subst (λ (xs : List CaseTicket). AreApart Holds Differ b (ts ++ xs)) (sym e)
     (subst (λ (xs : List CaseTicket). AreApart Holds Differ b xs) (sym (append-nil ts)) a)
+
+-- the slots of two tickets that are held are those of their sessions
+pub slots_differ : (b : CaseBook) (t u : CaseTicket) → Holds b t → Holds b u → Differ t u → t.session % b.size ≢ u.session % b.size
+slots_differ b t u h i no = λ e. no (h ∙ (e ∙ sym i))
+
+-- a reactor may take its turn
+pub may_turn : {L : Type 0} (r : Reactor L CaseTicket) (b : CaseBook) → IsReady number_of r → AreApart Holds Differ b (tickets r) → MayTurn r b
+may_turn r b ready apart = record { ready = ready; apart = apart }
+
+-- no ticket of the connections before a place has the slot
+abbrev pub IsFreeTo : {L : Type 0} → ℕ → Lined L CaseTicket → ℕ → Type 0
+IsFreeTo {L} slot l at = (k : ℕ) (c : Conn L CaseTicket) → k < at → slice_get l.conns k ≡ Some c → c.ticket.slot ≢ slot
+
+pub free_next : {L : Type 0} (slot : ℕ) (l : Lined L CaseTicket) (at : ℕ) (d : Conn L CaseTicket) → IsFreeTo slot l at → slice_get l.conns at ≡ Some d → d.ticket.slot ≢ slot → IsFreeTo slot l (at + 1)
+free_next {L} slot l at d free here no =
+    λ k c lt g.
+    elim (same_or_not k at) [
+      | inl e ↦ subst (λ (x : Conn L CaseTicket). x.ticket.slot ≢ slot) (some_is d c (sym here ∙ (ap (slice_get l.conns) (sym e) ∙ g))) no
+      | inr n ↦ free k c (omega (arith, lt, n)) g
+    ]
+
+pub free_all : {L : Type 0} (slot : ℕ) (l : Lined L CaseTicket) (at : ℕ) → IsFreeTo slot l at → at ≡ length l.conns → IsFreeSlot slot l
+free_all slot l at free all = λ k c g. let lt = slice_get_within l.conns k c g in free k c (omega (arith, lt, all)) g

@@ -79,11 +79,11 @@ impl Book for CaseBook {
 
     ghost differ = { Differ };
 
-    ghost look_finds = { λ b session found c. c.size ≡ b.size };
+    ghost look_finds = { λ b session found c. (found ≡ record { number = b.number; uid = b.uid }) × (c.size ≡ b.size) };
 
-    ghost bind_finds = { λ b session uid found c. c.size ≡ b.size };
+    ghost bind_finds = { λ b session uid found c. (found ≡ record { number = b.number; uid = b.uid }) × (c.size ≡ b.size) };
 
-    ghost release_finds = { λ b ticket uid c. c.size ≡ b.size };
+    ghost release_finds = { λ b ticket uid c. (uid ≡ b.uid) × (c.size ≡ b.size) };
 
     fn look(&mut self, session: Session) -> Look {
         self.calls = self.calls.saturating_add(1);
@@ -116,5 +116,6 @@ impl Book for CaseBook {
         self.uid
     }
 
+    #[tactic(auto, using(crate::proofs::Apart::slots_differ))]
     fn apart(&mut self, _one: &mut CaseTicket, _other: &mut CaseTicket) {}
 }

@@ -37,6 +37,7 @@ impl<L> Model for Scene<L> {
 }
 
 /// Whether no connection's ticket has this slot.
+#[tactic(auto, using(crate::proofs::Apart::free_next, crate::proofs::Apart::free_all))]
 fn is_free<L>(line: &Line<L, CaseTicket>, slot: u32) -> bool
     ensures { IsTrue result → IsFreeSlot slot line.now }
 {
@@ -156,6 +157,7 @@ impl<L: Link + Drop> Scene<L> {
     }
 
     /// The settling of what the last pipe call gave, alone. Nothing is settled where book and board don't fit the reactor.
+    #[tactic(auto, using(crate::proofs::Apart::apart_none, crate::proofs::Apart::may_turn))]
     pub fn settle(&mut self, alloc: Global, got: Got<Msg<L, CaseTicket>>)
         requires { brought got ≡ [] }
     {
@@ -165,6 +167,7 @@ impl<L: Link + Drop> Scene<L> {
     }
 
     /// A turn in which a new link of this session was taken; None where a connection has the session's slot.
+    #[tactic(auto, using(crate::proofs::Apart::apart_more, crate::proofs::Apart::may_turn))]
     pub fn arrive(
         &mut self,
         alloc: Global,
