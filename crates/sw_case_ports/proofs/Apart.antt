@@ -39,15 +39,15 @@ apart_more {L} b l t a h free =
     held k u g = elim (push_at (tickets_of l.conns) t k u g) [ inl w ↦ a.held k u w | inr w ↦ subst (λ (x : CaseTicket). Holds b x) w.1 h ]
 
     two : (j k : ℕ) (u v : CaseTicket) → slice_get (tickets_of l.conns ++ t ∷ []) j ≡ Some u → slice_get (tickets_of l.conns ++ t ∷ []) k ≡ Some v → ¬ (j ≡ k) → Differ u v
-    two j k u v d g no =
+    two j k u v d g unlike =
         elim (push_at (tickets_of l.conns) t j u d) [
           | inl p ↦ elim (push_at (tickets_of l.conns) t k v g) [
-            | inl q ↦ a.two j k u v p q no
+            | inl q ↦ a.two j k u v p q unlike
             | inr q ↦ subst (λ (x : CaseTicket). Differ u x) q.1 (other j u p)
           ]
           | inr p ↦ elim (push_at (tickets_of l.conns) t k v g) [
             | inl q ↦ subst (λ (x : CaseTicket). Differ x v) p.1 (λ e. other k v q (sym e))
-            | inr q ↦ absurd (no (p.0 ∙ sym q.0))
+            | inr q ↦ absurd (unlike (p.0 ∙ sym q.0))
           ]
         ]
 
@@ -59,7 +59,7 @@ apart_none b ts us a e =
 
 -- the slots of two tickets that are held are those of their sessions
 pub slots_differ : (b : CaseBook) (t u : CaseTicket) → Holds b t → Holds b u → Differ t u → t.session % b.size ≢ u.session % b.size
-slots_differ b t u h i no = λ e. no (h ∙ (e ∙ sym i))
+slots_differ b t u h i unlike = λ e. unlike (h ∙ (e ∙ sym i))
 
 -- a reactor may take its turn
 pub may_turn : {L : Type 0} (r : Reactor L CaseTicket) (b : CaseBook) → IsReady number_of r → AreApart Holds Differ b (tickets r) → MayTurn r b
@@ -70,10 +70,10 @@ abbrev pub IsFreeTo : {L : Type 0} → ℕ → Lined L CaseTicket → ℕ → Ty
 IsFreeTo {L} slot l at = (k : ℕ) (c : Conn L CaseTicket) → k < at → slice_get l.conns k ≡ Some c → c.ticket.slot ≢ slot
 
 pub free_next : {L : Type 0} (slot : ℕ) (l : Lined L CaseTicket) (at : ℕ) (d : Conn L CaseTicket) → IsFreeTo slot l at → slice_get l.conns at ≡ Some d → d.ticket.slot ≢ slot → IsFreeTo slot l (at + 1)
-free_next {L} slot l at d free here no =
+free_next {L} slot l at d free here unlike =
     λ k c lt g.
     elim (same_or_not k at) [
-      | inl e ↦ subst (λ (x : Conn L CaseTicket). x.ticket.slot ≢ slot) (some_is d c (sym here ∙ (ap (slice_get l.conns) (sym e) ∙ g))) no
+      | inl e ↦ subst (λ (x : Conn L CaseTicket). x.ticket.slot ≢ slot) (some_is d c (sym here ∙ (ap (slice_get l.conns) (sym e) ∙ g))) unlike
       | inr n ↦ free k c (omega (arith, lt, n)) g
     ]
 
