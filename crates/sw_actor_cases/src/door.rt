@@ -1,9 +1,9 @@
 //! Cases of the door: its turns, with what net, desk, board and ends answer.
 
 use crate::asks::put_ask;
+use crate::desk::CaseDesk;
 use crate::ended::put_ended;
 use crate::numbers::{small_of, text_of};
-use crate::ports::CaseDesk;
 use std::alloc::Global;
 use sw_base::{Counter, OutOfMemory};
 use sw_case_ports::{CaseEnds, CaseTicket};

@@ -7,7 +7,7 @@ use crate::asks::put_ask;
 use crate::messages::message;
 use crate::numbers::{number_of, small_of, text_of};
 use crate::playing::{Actor, CaseHandler, CaseMessage, Play};
-use crate::ports::Starving;
+use crate::starving::Starving;
 use std::alloc::Global;
 use sw_base::{CallFault, Counter, OutOfMemory, WordId};
 use sw_call::{columns, schema};

@@ -5,6 +5,7 @@
 
 mod asks;
 mod calls;
+mod desk;
 mod door;
 mod ended;
 mod hand;
@@ -13,8 +14,9 @@ mod links;
 mod messages;
 mod numbers;
 mod playing;
-mod ports;
 mod reactor;
+mod shelf;
+mod starving;
 mod watched;
 
 use std::io;

@@ -4,7 +4,8 @@ ghost use Rattle.std.specs.Prelude.{◌≡◌, ◌<◌, ◌≤◌, ◌+◌, leng
 ghost use Rattle.sw_hand.specs.Hand.{IsCrew};
 ghost use Rattle.sw_actor_cases.specs.Play.{IsSmall};
 
-use crate::ports::{CaseShelf, Starving};
+use crate::shelf::CaseShelf;
+use crate::starving::Starving;
 use std::alloc::Global;
 use std::marker::Model;
 use sw_base::{CallFault, Counter, OutOfMemory, Session};
