@@ -75,7 +75,7 @@ enum Asked {
     Other,
 }
 
-fn asked(ask: &Ask<Msg<SteadyLink, CaseTicket>>) -> Asked {
+fn kind_of(ask: &Ask<Msg<SteadyLink, CaseTicket>>) -> Asked {
     match ask {
         Ask::Take => Asked::Take,
         Ask::Push(_, _) => Asked::Push,
@@ -115,7 +115,7 @@ impl Driver {
             Asked::Push => self.scene.turn(alloc, Got::Pushed),
             Asked::Other => self.scene.turn(alloc, Got::Nothing),
         };
-        self.asked = asked(&ask);
+        self.asked = kind_of(&ask);
     }
 
     /// Turns up to the next take.
@@ -133,7 +133,7 @@ impl Driver {
         }
         let link = SteadyLink { gives, faults: 0 };
         if let Some(ask) = self.scene.arrive(alloc, link, 0, session) {
-            self.asked = asked(&ask);
+            self.asked = kind_of(&ask);
         }
         if self.asked != Asked::Take {
             self.turn(alloc);
