@@ -16,6 +16,7 @@ mod table;
 mod table_beside;
 mod table_shared;
 mod timers;
+mod turns;
 
 use std::alloc::Global;
 use std::rt::Clock;
@@ -24,7 +25,7 @@ use std::thread::Threads;
 use std::{env, io};
 
 /// What is printed where no part is named, behind a small load that is the same at each run.
-const USAGE: &str = "usage: sw_bench pipe|rowlock|board|sessions|table|audit|cut|timers";
+const USAGE: &str = "usage: sw_bench pipe|rowlock|board|sessions|table|audit|cut|timers|turn";
 
 fn main(rt: HostRuntime) -> io::Result<()> {
     let mut words = env::args(&rt)?;
@@ -42,6 +43,7 @@ fn main(rt: HostRuntime) -> io::Result<()> {
         "audit" => audit::figures(&rt, rt.alloc()),
         "cut" => cut::figures(&rt, rt.alloc()),
         "timers" => timers::figures(&rt, rt.alloc()),
+        "turn" => turns::figures(&rt, rt.alloc()),
         _ => println!(rt; "{USAGE}"),
     }
 }
