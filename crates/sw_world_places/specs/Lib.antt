@@ -1,0 +1,5 @@
+pub mod Pipes
+pub mod Place
+pub mod Places
+pub mod Ends
+pub mod Links
