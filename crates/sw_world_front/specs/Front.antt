@@ -15,9 +15,9 @@ use Rattle.sw_port_board.specs.PlainBoard.{PlainWords, PlainGoes}
 use Rattle.sw_door.specs.declared.door.Door.{Door}
 use Rattle.sw_door.specs.Door.{GoesOn, Turns}
 use Rattle.sw_world_places.specs.Pipes.{Sent, Asking, Getting}
-use Rattle.sw_world_places.specs.Links.{Arrivals, Comes, Accepts}
-use Rattle.sw_world_places.specs.declared.links.Claimed.{Claimed}
-use Rattle.sw_world_places.specs.declared.links.Claimed.TheVariants.{Drew, NoSlot, NumbersSpent}
+use Rattle.sw_world_places.specs.Links.{Arrivals, with_come, accepted}
+use Rattle.sw_world_places.specs.declared.arrived.Claimed.{Claimed}
+use Rattle.sw_world_places.specs.declared.arrived.Claimed.TheVariants.{Drew, NoSlot, NumbersSpent}
 use Rattle.sw_world_front.specs.declared.front.Front.{Front}
 
 -- a claim of the plain book, and ends that keep the cause alone
@@ -29,10 +29,10 @@ put_gives last link ended kept next = (kept ≡ true) × (next ≡ Some ended.ca
 
 -- a turn of the door over the plain ports, and one in which nothing came back
 abbrev pub PlainGoesOn : Door → Plan → Words → PlainWords → Option Cause → Door → Plan → Words → PlainWords → Option Cause → Asking → Type 0
-PlainGoesOn d n b o f e m c p g ask = GoesOn AcceptsBy claim_gives (λ k. k) PlainGoes put_gives d n b o f e m c p g ask
+PlainGoesOn d n b o f e m c p g ask = GoesOn AcceptsBy claim_gives (λ (k : ℕ). k) PlainGoes put_gives d n b o f e m c p g ask
 
 abbrev pub PlainTurns : Door → Plan → Words → PlainWords → Option Cause → Getting → Door → Plan → Words → PlainWords → Option Cause → Asking → Type 0
-PlainTurns d n b o f got e m c p g ask = Turns AcceptsBy claim_gives (λ k. k) PlainGoes put_gives d n b o f got e m c p g ask
+PlainTurns d n b o f got e m c p g ask = Turns AcceptsBy claim_gives (λ (k : ℕ). k) PlainGoes put_gives d n b o f got e m c p g ask
 
 -- the session of a link that is pushed
 abbrev pub session_of : Sent → Option ℕ
@@ -86,13 +86,13 @@ is_full gots.Pushed = false
 is_full gots.Nothing = false
 
 -- the next link was accepted, where there was a claim
-abbrev pub AcceptsIf : Option Claimed → Arrivals → Arrivals → Type 0
-AcceptsIf None a b = b ≡ a
-AcceptsIf (Some c) a b = Accepts a c b
+abbrev pub accepted_if : Option Claimed → Arrivals → Arrivals
+accepted_if None a = a
+accepted_if (Some c) a = accepted c a
 
 -- a link arrives at the net, and has the next number
-abbrev pub Arrives : Front → ℕ → Front → Type 0
-Arrives f ip h = (a : Arrivals) × (Comes f.links ip a × (h ≡ record f { net = with_link new_link ip f.net; links = a }))
+abbrev pub arrived : ℕ → Front → Front
+arrived ip f = record f { net = with_link new_link ip f.net; links = with_come ip f.links }
 
 -- no more links arrive
 abbrev pub net_ended : Front → Front
@@ -102,4 +102,4 @@ net_ended f = record f { net = closed f.net }
 abbrev pub TurnsFront : Front → Words → PlainWords → Getting → Front → Words → PlainWords → Asking → Type 0
 TurnsFront f b o got h c q ask =
     (last : Option Cause) × (PlainTurns f.door f.net b o f.refusals got h.door h.net c q last ask
-    × (h.refusals ≡ None) × AcceptsIf (claim_in got ask last) f.links h.links)
+    × (h.refusals ≡ None) × (h.links ≡ accepted_if (claim_in got ask last) f.links))

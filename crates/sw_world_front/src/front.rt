@@ -1,8 +1,8 @@
 //! The front and its calls.
 ghost use Rattle.std.specs.Prelude.{◌≡◌, ◌<◌, ◌≤◌, [], None, false, length, IfOk, OnOk, OnErr};
 ghost use Rattle.sw_link.specs.MemoryNets.{new_net};
-ghost use Rattle.sw_world_places.specs.Links.{no_arrivals, session_in as session_of_link, Keeps, TakesAhead};
-ghost use Rattle.sw_world_front.specs.Front.{AcceptsIf, Arrives, net_ended, TurnsFront};
+ghost use Rattle.sw_world_places.specs.Links.{no_arrivals, session_in as session_of_link, kept, TakesAhead};
+ghost use Rattle.sw_world_front.specs.Front.{accepted_if, arrived, net_ended, TurnsFront};
 
 use crate::seen::{claim_by, is_full};
 use std::alloc::Global;
@@ -51,7 +51,7 @@ impl Front {
 
     /// A link arrives from this address. At `OutOfMemory` door and links are as before.
     pub fn arrive(&mut self, alloc: Global, ip: u32) -> Result<(), OutOfMemory>
-        ensures ok { OnOk result (Arrives self.old ip self.new) }
+        ensures ok { OnOk result (self.new ≡ arrived ip self.old) }
         ensures err { OnErr result (self.new ≡ record self.old { net = self.new.net }) }
     {
         self.net.arrive(MemoryLink::new(alloc), ip)?;
@@ -74,9 +74,8 @@ impl Front {
 
     /// A step is kept for the link of this number, if there is one. At `OutOfMemory` all is as before.
     pub fn keep(&mut self, number: u32, step: LinkStep) -> Result<(), OutOfMemory>
-        ensures ok { OnOk result (Keeps self.old.links number step self.new.links) }
-        ensures same { self.new ≡ record self.old { links = self.new.links } }
-        ensures err { OnErr result (self.new.links ≡ self.old.links) }
+        ensures ok { OnOk result (self.new ≡ record self.old { links = kept number step self.old.links }) }
+        ensures err { OnErr result (self.new ≡ self.old) }
     {
         self.links.keep(number, step)
     }
@@ -114,8 +113,7 @@ impl Front {
 
     /// The next link was accepted, where there was a claim.
     fn accept(&mut self, claim: Option<Claimed>)
-        ensures accepts { AcceptsIf claim self.old.links self.new.links }
-        ensures same { self.new ≡ record self.old { links = self.new.links } }
+        ensures { self.new ≡ record self.old { links = accepted_if claim self.old.links } }
     {
         if let Some(claim) = claim {
             self.links.accept(claim);

@@ -37,8 +37,8 @@ use Rattle.sw_world_fits.proofs.Board.{stopped_fits}
 use Rattle.sw_world_fits.proofs.Book.{claim_fits}
 use Rattle.sw_world_fits.proofs.Net.{accept_fits}
 use Rattle.sw_world_places.specs.Pipes.{Asking, Getting}
-use Rattle.sw_world_places.specs.declared.links.Claimed.{Claimed as CodeClaimed}
-use Rattle.sw_world_places.specs.declared.links.Claimed.TheVariants as links
+use Rattle.sw_world_places.specs.declared.arrived.Claimed.{Claimed as CodeClaimed}
+use Rattle.sw_world_places.specs.declared.arrived.Claimed.TheVariants as links
 use Rattle.sw_world_stands.specs.Asked.{bare_of, ask_of}
 use Rattle.sw_world_stands.specs.Links.{claim_of as code_claim}
 use Rattle.sw_world_door.specs.Doors.{DoorState, new_door, DoorGoes, Reads, NotYet, NetEnds, Draws, Refuses as RefusesLink, SaysNext, Finishes}
@@ -166,7 +166,7 @@ lost_same d kept e = ap (λ (v : Bool). record d { lost = (if v then d.lost else
 module _ (t : Terms) (shape : Shape) (p : Ports) (d e : Door) (s : DoorState) (n m : Plan) (b c : Words) (o q : PlainWords) (g : Option Cause) (ask : Asking) (i : DoorIs t d s) (st : Stand t p n b o) (caps : Caps p) (some : 1 ≤ t.max_conn) (ending : s.ending ≡ false) (accepting : s.accepts ≡ true) where
   claimed_fit : (link : MemoryLink) (ip : ℕ) (rest : List ℕ) (mid : PlainWords) → p.waiting ≡ ip ∷ rest → NetStands m (behind p.waiting) p.ended → PlainGoes o (steps.Added counters.Accepted ∷ []) mid →
       (r : Result ℕ ClaimFault) → (claimed t p).0 ≡ answer_of r → BookStands t c (ported t p TheDoor (Accepts ip (answer_of r))) →
-      Claimed (λ k. k) PlainGoes put_gives r (record d { accepts = false }) link ip mid None e q g ask → GoesFit t shape p s e m c q g ask
+      Claimed (λ (k : ℕ). k) PlainGoes put_gives r (record d { accepts = false }) link ip mid None e q g ask → GoesFit t shape p s e m c q g ask
   claimed_fit link ip rest mid waits net counts (Ok k) is book h =
       carry t shape p s m e (record d { accepts = false; to = code_reactor_of d k }) c c q mid g None ask (asks.Push (targets.Reactor (code_reactor_of d k)) (msgs.Fresh link ip k)) h.0.0 refl h.1 h.2 h.0.1
       (draws_fit t shape p d s m c o mid link ip k rest i st.board st.turn caps ending accepting waits net is book counts)
@@ -178,7 +178,7 @@ module _ (t : Terms) (shape : Shape) (p : Ports) (d e : Door) (s : DoorState) (n
       (refused_fit t shape p d s m c o mid q ip rest Spent links.NumbersSpent (Some (cause_of faults.Spent)) i st.board st.turn caps ending accepting waits net is refl refl refl book counts (count_true mid q kept put.0 count))
 
   accepted_fit : (x : Accept MemoryLink) → AcceptIs p.waiting p.ended x → NetStands m (waits_then p.waiting x) p.ended →
-      AcceptsAs claim_gives (λ k. k) PlainGoes put_gives x (record d { accepts = false }) b o None e c q g ask → GoesFit t shape p s e m c q g ask
+      AcceptsAs claim_gives (λ (k : ℕ). k) PlainGoes put_gives x (record d { accepts = false }) b o None e c q g ask → GoesFit t shape p s e m c q g ask
   accepted_fit (accepts.Got link ip) is net (r, (claiming, (mid, (counts, h)))) =
       let k = claim_fits t b p st.book some TheDoor ip in
       let answer : (claimed t p).0 ≡ answer_of r = k.0 ∙ ap answer_of (sym claiming.0) in
@@ -212,7 +212,7 @@ module _ (t : Terms) (shape : Shape) (p : Ports) (d e : Door) (s : DoorState) (n
       })
   accepted_fit accepts.Failed is net h = absurd is
 
-  accepts_fit : CodeAccepts AcceptsBy claim_gives (λ k. k) PlainGoes put_gives d n b o None e m c q g ask → GoesFit t shape p s e m c q g ask
+  accepts_fit : CodeAccepts AcceptsBy claim_gives (λ (k : ℕ). k) PlainGoes put_gives d n b o None e m c q g ask → GoesFit t shape p s e m c q g ask
   accepts_fit (x, (by, h)) = let k = accept_fits n p.waiting p.ended st.net x m by in accepted_fit x k.0 k.1 h
 
 -- a turn in which nothing came back
@@ -220,14 +220,14 @@ pub goes_fit : (t : Terms) (shape : Shape) (p : Ports) (d e : Door) (s : DoorSta
     DoorIs t d s → Stand t p n b o → Caps p → 1 ≤ t.max_conn → PlainGoesOn d n b o None e m c q g ask → GoesFit t shape p s e m c q g ask
 goes_fit t shape p d e s n m b c o q g ask i st caps some h = by_ending d.ending refl h
   where
-    by_accepts : s.ending ≡ false → (v : Bool) → d.accepts ≡ v → MatchBool v (CodeAccepts AcceptsBy claim_gives (λ k. k) PlainGoes put_gives d n b o None e m c q g ask) (Looks PlainGoes d o ask e q × (m ≡ n) × (c ≡ b) × (g ≡ None)) → GoesFit t shape p s e m c q g ask
+    by_accepts : s.ending ≡ false → (v : Bool) → d.accepts ≡ v → MatchBool v (CodeAccepts AcceptsBy claim_gives (λ (k : ℕ). k) PlainGoes put_gives d n b o None e m c q g ask) (Looks PlainGoes d o ask e q × (m ≡ n) × (c ≡ b) × (g ≡ None)) → GoesFit t shape p s e m c q g ask
     by_accepts ending true a k = accepts_fit t shape p d e s n m b c o q g ask i st caps some ending (sym i.accepts ∙ a) k
     by_accepts ending false a ((stop, (goes, is, asked)), net, desk, ends) =
         subst (λ (w : Plan). GoesFit t shape p s e w c q g ask) (sym net)
         (carry t shape p s n e (record d { ending = stop; accepts = true }) c b q q g None ask asks.Nothing is desk refl ends asked
         (looks_fit t shape p d s n b o q stop i st ending (sym i.accepts ∙ a) goes))
 
-    by_ending : (v : Bool) → d.ending ≡ v → MatchBool v (Ends d ask e × (m ≡ n) × (c ≡ b) × (q ≡ o) × (g ≡ None)) (MatchBool d.accepts (CodeAccepts AcceptsBy claim_gives (λ k. k) PlainGoes put_gives d n b o None e m c q g ask) (Looks PlainGoes d o ask e q × (m ≡ n) × (c ≡ b) × (g ≡ None))) → GoesFit t shape p s e m c q g ask
+    by_ending : (v : Bool) → d.ending ≡ v → MatchBool v (Ends d ask e × (m ≡ n) × (c ≡ b) × (q ≡ o) × (g ≡ None)) (MatchBool d.accepts (CodeAccepts AcceptsBy claim_gives (λ (k : ℕ). k) PlainGoes put_gives d n b o None e m c q g ask) (Looks PlainGoes d o ask e q × (m ≡ n) × (c ≡ b) × (g ≡ None))) → GoesFit t shape p s e m c q g ask
     by_ending true x (ends, net, desk, board, last) =
         subst (λ (w : Plan). GoesFit t shape p s e w c q g ask) (sym net)
         (carry t shape p s n e e c b q o g None ask ask refl desk board last refl (ends_fit t shape p d e s n b o ask i st (sym i.ending ∙ x) ends))

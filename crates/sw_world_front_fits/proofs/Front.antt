@@ -17,10 +17,10 @@ use Rattle.sw_world_fits.specs.Book.{BookStands}
 use Rattle.sw_world_fits.specs.Board.{number_of, BoardStands}
 use Rattle.sw_world_fits.proofs.Net.{arrive_fits, end_fits}
 use Rattle.sw_world_places.specs.Pipes.{Asking, Getting}
-use Rattle.sw_world_places.specs.Links.{Arrivals, no_arrivals, Keeps, TakesAhead}
-use Rattle.sw_world_places.specs.declared.links.Claimed.{Claimed}
+use Rattle.sw_world_places.specs.Links.{Arrivals, no_arrivals, kept, accepted, TakesAhead}
+use Rattle.sw_world_places.specs.declared.arrived.Claimed.{Claimed}
 use Rattle.sw_world_front.specs.declared.front.Front.{Front}
-use Rattle.sw_world_front.specs.Front.{PlainTurns, claim_in, AcceptsIf, Arrives, net_ended, TurnsFront}
+use Rattle.sw_world_front.specs.Front.{PlainTurns, claim_in, accepted_if, arrived, net_ended, TurnsFront}
 use Rattle.sw_world_stands.specs.Links.{claim_of, LinksStand}
 use Rattle.sw_world_stands.proofs.Links.{none_stand, comes_stand, keeps_stand, takes_stand, accepts_stand}
 use Rattle.sw_world_door.specs.Doors.{DoorState, new_door}
@@ -40,15 +40,14 @@ front_new t f door net links none =
     }
 
 -- a link arrives
-pub front_arrives : (t : Terms) (f h : Front) (s : DoorState) (p : Ports) (ip : ℕ) → FrontStands t f s p → Arrives f ip h → FrontStands t h s (record p { waiting = p.waiting ++ ip ∷ [] })
-front_arrives t f h s p ip st (a, (comes, is)) =
-    subst (λ (x : Front). FrontStands t x s (record p { waiting = p.waiting ++ ip ∷ [] })) (sym is)
-    (record {
+pub front_arrives : (t : Terms) (f : Front) (s : DoorState) (p : Ports) (ip : ℕ) → FrontStands t f s p → FrontStands t (arrived ip f) s (record p { waiting = p.waiting ++ ip ∷ [] })
+front_arrives t f s p ip st =
+    record {
       door = st.door;
       net = arrive_fits f.net p.waiting p.ended st.net new_link ip;
-      links = comes_stand t f.links a ip p.given p.waiting st.links comes;
+      links = comes_stand t f.links ip p.given p.waiting st.links;
       none = st.none;
-    })
+    }
 
 -- no more links arrive
 pub front_ends : (t : Terms) (f : Front) (s : DoorState) (p : Ports) → FrontStands t f s p → FrontStands t (net_ended f) s (record p { ended = true })
@@ -58,22 +57,21 @@ front_ends t f s p st = record { door = st.door; net = end_fits f.net p.waiting 
 pub front_relinked : (t : Terms) (f h : Front) (s : DoorState) (p : Ports) → FrontStands t f s p → h ≡ record f { links = h.links } → LinksStand t h.links p.given p.waiting → FrontStands t h s p
 front_relinked t f h s p st is links = subst (λ (x : Front). FrontStands t x s p) (sym is) (record { door = st.door; net = st.net; links = links; none = st.none })
 
-pub front_keeps : (t : Terms) (f h : Front) (s : DoorState) (p : Ports) (n : ℕ) (step : LinkStep) → FrontStands t f s p → h ≡ record f { links = h.links } → Keeps f.links n step h.links → FrontStands t h s p
-front_keeps t f h s p n step st is k = front_relinked t f h s p st is (keeps_stand t f.links h.links n step p.given p.waiting st.links k)
+pub front_keeps : (t : Terms) (f : Front) (s : DoorState) (p : Ports) (n : ℕ) (step : LinkStep) → FrontStands t f s p → FrontStands t (record f { links = kept n step f.links }) s p
+front_keeps t f s p n step st = record { door = st.door; net = st.net; links = keeps_stand t f.links n step p.given p.waiting st.links; none = st.none }
 
 pub front_takes : (t : Terms) (f h : Front) (s : DoorState) (p : Ports) (session : ℕ) (steps : List LinkStep) → FrontStands t f s p → h ≡ record f { links = h.links } → TakesAhead f.links session steps h.links → FrontStands t h s p
 front_takes t f h s p session steps st is k = front_relinked t f h s p st is (takes_stand t f.links h.links session steps p.given p.waiting st.links k)
 
 -- the links behind a turn
-accepts_if : (t : Terms) (p q : Ports) (a b : Arrivals) → LinksStand t a p.given p.waiting → (o : Option Claimed) → Moves o p q → AcceptsIf o a b → LinksStand t b q.given q.waiting
-accepts_if t p q a b st None (given, waiting) is =
-    subst (λ (x : Arrivals). LinksStand t x q.given q.waiting) (sym is)
-    (subst (λ (g : List (ℕ × Claim)). LinksStand t a g q.waiting) (sym given)
-    (subst (λ (w : List ℕ). LinksStand t a p.given w) (sym waiting) st))
-accepts_if t p q a b st (Some c) (ip, (rest, (waits, given, waiting))) k =
-    subst (λ (g : List (ℕ × Claim)). LinksStand t b g q.waiting) (sym given)
-    (subst (λ (w : List ℕ). LinksStand t b (p.given ++ (ip, claim_of c) ∷ []) w) (sym waiting)
-    (accepts_stand t a b c ip rest p.given (subst (LinksStand t a p.given) waits st) k))
+accepts_if : (t : Terms) (p q : Ports) (a : Arrivals) → LinksStand t a p.given p.waiting → (o : Option Claimed) → Moves o p q → LinksStand t (accepted_if o a) q.given q.waiting
+accepts_if t p q a st None (given, waiting) =
+    subst (λ (g : List (ℕ × Claim)). LinksStand t a g q.waiting) (sym given)
+    (subst (λ (w : List ℕ). LinksStand t a p.given w) (sym waiting) st)
+accepts_if t p q a st (Some c) (ip, (rest, (waits, given, waiting))) =
+    subst (λ (g : List (ℕ × Claim)). LinksStand t (accepted c a) g q.waiting) (sym given)
+    (subst (λ (w : List ℕ). LinksStand t (accepted c a) (p.given ++ (ip, claim_of c) ∷ []) w) (sym waiting)
+    (accepts_stand t a c ip rest p.given (subst (LinksStand t a p.given) waits st)))
 
 -- A TURN OF THE FRONT
 pub front_turns : (t : Terms) (shape : Shape) (p : Ports) (f h : Front) (s : DoorState) (b c : Words) (o q : PlainWords) (got : Getting) (ask : Asking) →
@@ -86,7 +84,7 @@ front_turns t shape p f h s b c o q got ask st book board turn caps some (last, 
       state = k.state;
       turns = k.turns;
       answers = k.answers;
-      front = record { door = k.is; net = k.stand.net; links = accepts_if t p (all_ported t p TheDoor k.dids) f.links h.links st.links (claim_in got ask last) k.moves accepts; none = none };
+      front = record { door = k.is; net = k.stand.net; links = subst (λ (x : Arrivals). LinksStand t x (all_ported t p TheDoor k.dids).given (all_ported t p TheDoor k.dids).waiting) (sym accepts) (accepts_if t p (all_ported t p TheDoor k.dids) f.links st.links (claim_in got ask last) k.moves); none = none };
       book = k.stand.book;
       board = k.stand.board;
       turn = k.stand.turn;

@@ -15,7 +15,7 @@ use Rattle.sw_world_fits.specs.Net.{NetStands}
 use Rattle.sw_world_fits.specs.Book.{BookStands}
 use Rattle.sw_world_fits.specs.Board.{number_of, BoardStands}
 use Rattle.sw_world_places.specs.Pipes.{Asking, Getting}
-use Rattle.sw_world_places.specs.declared.links.Claimed.{Claimed}
+use Rattle.sw_world_places.specs.declared.arrived.Claimed.{Claimed}
 use Rattle.sw_world_front.specs.Front.{session_in, claim_by, claim_in}
 use Rattle.sw_world_stands.specs.Asked.{ask_of, got_of}
 use Rattle.sw_world_stands.specs.Links.{claim_of}

@@ -15,9 +15,9 @@ ghost use Rattle.sw_world_ports.specs.Ports.{Ports, new_ports};
 ghost use Rattle.sw_world_fits.specs.Book.{BookStands};
 ghost use Rattle.sw_world_fits.specs.Board.{number_of, BoardStands};
 ghost use Rattle.sw_world_places.specs.Pipes.{Asking, Getting};
-ghost use Rattle.sw_world_places.specs.Links.{no_arrivals, Keeps, TakesAhead};
+ghost use Rattle.sw_world_places.specs.Links.{no_arrivals, kept, TakesAhead};
 ghost use Rattle.sw_world_front.specs.declared.front.Front.{Front};
-ghost use Rattle.sw_world_front.specs.Front.{Arrives, net_ended, TurnsFront};
+ghost use Rattle.sw_world_front.specs.Front.{arrived, net_ended, TurnsFront};
 ghost use Rattle.sw_world_door.specs.Doors.{DoorState, new_door};
 ghost use Rattle.sw_world_front_fits.specs.Front.{FrontStands, FrontFits};
 
@@ -29,8 +29,8 @@ pub fn new_fronts_stand()
 
 /// A link that arrives waits behind the others.
 pub fn arrivals_stand()
-    ensures { (t : Terms) (f h : Front) (s : DoorState) (p : Ports) (ip : ℕ) → FrontStands t f s p → Arrives f ip h →
-        FrontStands t h s (record p { waiting = p.waiting ++ ip ∷ [] }) }
+    ensures { (t : Terms) (f : Front) (s : DoorState) (p : Ports) (ip : ℕ) → FrontStands t f s p →
+        FrontStands t (arrived ip f) s (record p { waiting = p.waiting ++ ip ∷ [] }) }
 {}
 
 /// No more links arrive.
@@ -41,8 +41,8 @@ pub fn net_ends_stand()
 
 /// A step that is kept for a link changes nothing of this.
 pub fn kept_steps_stand()
-    ensures { (t : Terms) (f h : Front) (s : DoorState) (p : Ports) (n : ℕ) (step : LinkStep) → FrontStands t f s p →
-        h ≡ record f { links = h.links } → Keeps f.links n step h.links → FrontStands t h s p }
+    ensures { (t : Terms) (f : Front) (s : DoorState) (p : Ports) (n : ℕ) (step : LinkStep) → FrontStands t f s p →
+        FrontStands t (record f { links = kept n step f.links }) s p }
 {}
 
 /// Steps that are taken out change nothing of this.

@@ -2,14 +2,16 @@
 //! go. The links by their numbers stand here too.
 #![tactic(auto)]
 
+mod arrived;
 mod ends;
 mod inbox;
 mod links;
 mod place;
 mod places;
 
+pub use arrived::{Arrived, Claimed};
 pub use ends::{Refusals, Roomy};
 pub use inbox::{Asks, Gets, Inbox, Message};
-pub use links::{Arrived, Claimed, Links};
+pub use links::Links;
 pub use place::{Next, Place};
 pub use places::Places;

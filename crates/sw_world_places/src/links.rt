@@ -1,36 +1,13 @@
-//! The links by their numbers, in the order in which they arrived, with what their claims answered, and what of their scripts
-//! waits until their reactors have them.
+//! The links by their numbers, in the order in which they arrived.
 ghost use Rattle.std.specs.Prelude.{◌≡◌, ◌<◌, length, IfOk, OnOk, OnErr};
 ghost use Rattle.std.specs.Option.{option_copied};
-ghost use Rattle.sw_world_places.specs.Links.{session_at, session_by, slots_by};
+ghost use Rattle.sw_world_places.specs.Links.{session_at, slots_by};
 
+use crate::arrived::{Arrived, Claimed};
 use std::alloc::Global;
 use std::marker::Model;
-use std::mem::replace;
 use sw_base::{OutOfMemory, Session};
 use sw_link::LinkStep;
-
-/// What the claim of a link's session answered.
-#[derive(Clone, Copy, Debug, PartialEq, Eq)]
-pub enum Claimed {
-    /// This session was drawn.
-    Drew(Session),
-    /// No descriptor was free.
-    NoSlot,
-    /// The numbers of sessions are used up.
-    NumbersSpent,
-}
-
-/// A link that arrived.
-#[derive(Drop)]
-pub struct Arrived {
-    /// The peer's IPv4 address as a big-endian number.
-    pub ip: u32,
-    /// What the claim of its session answered, once it was accepted.
-    pub claim: Option<Claimed>,
-    /// The steps of its script that came before its reactor had it.
-    pub ahead: Vec<LinkStep>,
-}
 
 /// All links. Contracts see them in the order in which they arrived, how many of them were accepted, and for each descriptor
 /// the number of the link that had it last.
@@ -52,7 +29,7 @@ impl Model for Links {
 }
 
 impl Links {
-    ghost use Rattle.sw_world_places.specs.Links.{Arrivals, no_arrivals, Comes, session_in, has_session, Keeps, Accepts, TakesAhead};
+    ghost use Rattle.sw_world_places.specs.Links.{no_arrivals, with_come, session_in, has_session, kept, accepted, TakesAhead};
 
     /// No links, for so many descriptors.
     pub fn make(alloc: Global, max_conn: u32) -> Result<Links, OutOfMemory>
@@ -82,14 +59,10 @@ impl Links {
 
     /// One link more. At `OutOfMemory` all are as before.
     pub fn arrive(&mut self, alloc: Global, ip: u32) -> Result<(), OutOfMemory>
-        ensures ok { OnOk result (Comes self.old ip self.new) }
+        ensures ok { OnOk result (self.new ≡ with_come ip self.old) }
         ensures err { OnErr result (self.new ≡ self.old) }
     {
-        self.all.push(Arrived {
-            ip,
-            claim: None,
-            ahead: Vec::new(alloc),
-        })?;
+        self.all.push(Arrived::new(alloc, ip))?;
         Ok(())
     }
 
@@ -102,22 +75,22 @@ impl Links {
 
     /// A step is kept for the link of this number, if there is one. At `OutOfMemory` all are as before.
     pub fn keep(&mut self, number: u32, step: LinkStep) -> Result<(), OutOfMemory>
-        ensures ok { OnOk result (Keeps self.old number step self.new) }
+        ensures ok { OnOk result (self.new ≡ kept number step self.old) }
         ensures err { OnErr result (self.new ≡ self.old) }
     {
         if (number as usize) < self.all.len() {
-            self.all[number as usize].ahead.push(step)?;
+            return self.all[number as usize].keep(step);
         }
         Ok(())
     }
 
     /// The next link was accepted, and its claim answered so.
     pub fn accept(&mut self, claim: Claimed)
-        ensures { Accepts self.old claim self.new }
+        ensures { self.new ≡ accepted claim self.old }
     {
         if self.accepted < self.all.len() {
-            self.all[self.accepted].claim = Some(claim);
-            note(&mut self.slots, claim, self.accepted);
+            note(&mut self.slots, &claim, self.accepted);
+            self.all[self.accepted].accept(claim);
             self.accepted += 1;
         }
     }
@@ -128,7 +101,7 @@ impl Links {
     {
         let number = self.slots[session.number() as usize % self.slots.len()];
         if self.is_of(number, session) {
-            return replace(&mut self.all[number].ahead, Vec::new(alloc));
+            return self.all[number].take_ahead(alloc);
         }
         Vec::new(alloc)
     }
@@ -146,29 +119,18 @@ impl Links {
 
 /// The session of a link, if there is one.
 fn session_at(link: Option<&Arrived>) -> Option<Session>
-    ensures { result ≡ session_at (option_copied link) }
+    ensures { result ≡ session_at (option_copied link.entry) }
 {
     match link {
-        Some(link) => session_by(link.claim),
-        None => None,
-    }
-}
-
-fn session_by(claim: Option<Claimed>) -> Option<Session>
-    ensures { result ≡ session_by claim }
-{
-    match claim {
-        Some(Claimed::Drew(session)) => Some(session),
-        Some(Claimed::NoSlot) => None,
-        Some(Claimed::NumbersSpent) => None,
+        Some(link) => link.session(),
         None => None,
     }
 }
 
 /// The link of this number has the descriptor of the session that its claim drew.
-fn note(slots: &mut Vec<usize>, claim: Claimed, number: usize)
+fn note(slots: &mut Vec<usize>, claim: &Claimed, number: usize)
     requires { 0 < length slots.old.items }
-    ensures { slots.new.items ≡ slots_by claim number slots.old.items }
+    ensures { slots.new.items ≡ slots_by claim.now number slots.old.items }
 {
     match claim {
         Claimed::Drew(session) => {

@@ -12,7 +12,7 @@ use Rattle.sw_world_places.specs.declared.place.Next.TheVariants as nexts
 
 -- a message: a ticket is its session's number
 abbrev pub bare_of : Sent → Message
-bare_of m = message_of (λ k. k) m
+bare_of m = message_of (λ (k : ℕ). k) m
 
 abbrev pub ask_of : Asking → Ask
 ask_of asks.Take = AskTake

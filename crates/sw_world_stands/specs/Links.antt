@@ -3,9 +3,9 @@ use Rattle.std.specs.Prelude.{◌≡◌, ℕ, List, map, ◌++◌, length, Optio
 use Rattle.sw_record.specs.Terms.{Terms}
 use Rattle.sw_past.specs.Claims.{Claim, Drew, Full, Spent}
 use Rattle.sw_world_places.specs.Links.{Arrivals}
-use Rattle.sw_world_places.specs.declared.links.Arrived.{Arrived}
-use Rattle.sw_world_places.specs.declared.links.Claimed.{Claimed}
-use Rattle.sw_world_places.specs.declared.links.Claimed.TheVariants as claims
+use Rattle.sw_world_places.specs.Arrived.{Known}
+use Rattle.sw_world_places.specs.declared.arrived.Claimed.{Claimed}
+use Rattle.sw_world_places.specs.declared.arrived.Claimed.TheVariants as claims
 
 -- a claim's answer
 abbrev pub claim_of : Claimed → Claim
@@ -18,7 +18,7 @@ claims_of None = None
 claims_of (Some c) = Some (claim_of c)
 
 -- a link's address, and what its claim answered
-abbrev pub entry : Arrived → ℕ × Option Claim
+abbrev pub entry : Known → ℕ × Option Claim
 entry l = (l.ip, claims_of l.claim)
 
 -- the same of one that was accepted, and of one that waits

@@ -2,4 +2,4 @@ use Rattle.sw_world_stands.proofs.Links.{comes_stand}
 use Rattle.sw_world_stands.proofs.links.arrivals_stand.Goals as goal
 
 pub returns : goal.returns
-returns c = λ t a b ip given waiting h k. comes_stand t a b ip given waiting h k
+returns c = λ t a ip given waiting h. comes_stand t a ip given waiting h

@@ -2,4 +2,4 @@ use Rattle.sw_world_stands.proofs.Links.{takes_stand}
 use Rattle.sw_world_stands.proofs.links.taken_steps_stand.Goals as goal
 
 pub returns : goal.returns
-returns c = λ t a b s steps given waiting h k. takes_stand t a b s steps given waiting h k
+returns c = λ t a b n steps given waiting h k. takes_stand t a b n steps given waiting h k
