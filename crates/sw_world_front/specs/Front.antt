@@ -62,19 +62,10 @@ abbrev pub cause_claim : Option Cause → Option Claimed
 cause_claim (Some cause) = claim_of_cause cause
 cause_claim None = None
 
--- what the claim of a turn answered, if there was one: its link's session is pushed with it, or its cause is known
+-- what a claim answered: its link's session is pushed with it, or its cause is known
 abbrev pub claim_by : Option ℕ → Option Cause → Option Claimed
 claim_by (Some s) last = Some (Drew s)
 claim_by None last = cause_claim last
-
--- a link that came back is no new one
-abbrev pub claim_in : Getting → Asking → Option Cause → Option Claimed
-claim_in (gots.Full m) ask last = None
-claim_in gots.Start ask last = claim_by (session_in ask) last
-claim_in (gots.Took m) ask last = claim_by (session_in ask) last
-claim_in gots.Empty ask last = claim_by (session_in ask) last
-claim_in gots.Pushed ask last = claim_by (session_in ask) last
-claim_in gots.Nothing ask last = claim_by (session_in ask) last
 
 -- a message came back
 abbrev pub is_full : Getting → Bool
@@ -84,6 +75,15 @@ is_full (gots.Took m) = false
 is_full gots.Empty = false
 is_full gots.Pushed = false
 is_full gots.Nothing = false
+
+-- then its link is no new one
+abbrev pub claim_if : Bool → Option Claimed → Option Claimed
+claim_if true claim = None
+claim_if false claim = claim
+
+-- what the claim of a turn answered, if there was one
+abbrev pub claim_in : Getting → Asking → Option Cause → Option Claimed
+claim_in got ask last = claim_if (is_full got) (claim_by (session_in ask) last)
 
 -- the next link was accepted, where there was a claim
 abbrev pub accepted_if : Option Claimed → Arrivals → Arrivals

@@ -2,7 +2,7 @@
 ghost use Rattle.std.specs.Prelude.{◌≡◌, ◌<◌, ◌≤◌, [], None, false, length, IfOk, OnOk, OnErr};
 ghost use Rattle.sw_link.specs.MemoryNets.{new_net};
 ghost use Rattle.sw_world_places.specs.Links.{no_arrivals, session_in as session_of_link, kept, TakesAhead};
-ghost use Rattle.sw_world_front.specs.Front.{accepted_if, arrived, net_ended, TurnsFront};
+ghost use Rattle.sw_world_front.specs.Front.{session_in, claim_by, claim_if, accepted_if, arrived, net_ended, TurnsFront};
 
 use crate::seen::{claim_by, is_full};
 use std::alloc::Global;
@@ -104,19 +104,28 @@ impl Front {
             board,
             &mut self.refusals,
         );
-        let last = self.refusals.take_last();
-        if !again {
-            self.accept(claim_by(&ask, last));
-        }
+        self.note(again, &ask);
         ask
     }
 
-    /// The next link was accepted, where there was a claim.
-    fn accept(&mut self, claim: Option<Claimed>)
-        ensures { self.new ≡ record self.old { links = accepted_if claim self.old.links } }
+    /// What the door's turn tells of the link that it accepted; a link that came back is no new one.
+    fn note(&mut self, again: bool, ask: &Asks)
+        ensures links { self.new.links ≡ accepted_if (claim_if again (claim_by (session_in ask.now) self.old.refusals)) self.old.links }
+        ensures same { self.new ≡ record self.old { links = self.new.links; refusals = None } }
     {
-        if let Some(claim) = claim {
-            self.links.accept(claim);
+        let last = self.refusals.take_last();
+        if !again {
+            self.accept(&claim_by(ask, last));
+        }
+    }
+
+    /// The next link was accepted, where there was a claim.
+    fn accept(&mut self, claim: &Option<Claimed>)
+        ensures { self.new ≡ record self.old { links = accepted_if claim.now self.old.links } }
+    {
+        match claim {
+            Some(claim) => self.links.accept(*claim),
+            None => {}
         }
     }
 }
