@@ -22,7 +22,7 @@ use Rattle.sw_world_places.specs.declared.arrived.Claimed.{Claimed}
 use Rattle.sw_world_front.specs.declared.front.Front.{Front}
 use Rattle.sw_world_front.specs.Front.{PlainTurns, claim_in, accepted_if, arrived, net_ended, TurnsFront}
 use Rattle.sw_world_stands.specs.Links.{claim_of, LinksStand}
-use Rattle.sw_world_stands.proofs.Links.{none_stand, comes_stand, keeps_stand, takes_stand, accepts_stand}
+use Rattle.sw_world_stands.proofs.Arrivals.{none_stand, comes_stand, keeps_stand, takes_stand, accepts_stand}
 use Rattle.sw_world_door.specs.Doors.{DoorState, new_door}
 use Rattle.sw_world_front_fits.specs.Door.{Moves, Stand, TurnFits}
 use Rattle.sw_world_front_fits.specs.Front.{FrontStands, FrontFits}

@@ -23,7 +23,7 @@ use Rattle.sw_world_places.specs.declared.place.Next.{Next}
 use Rattle.sw_world_places.specs.declared.place.Next.TheVariants as nexts
 use Rattle.sw_world_places.specs.declared.place.Place.{Place}
 use Rattle.sw_world_stands.specs.Asked.{bare_of, ask_of, got_of, next_of}
-use Rattle.sw_world_stands.specs.Rows.{PlaceStands, RowsStand, IsDue, OnlyPipes, WentBy}
+use Rattle.sw_world_stands.specs.Rows.{PlaceStands, RowsStand, IsDue, WentBy, Went}
 use Rattle.sw_world_stands.proofs.Gets.{some_same}
 use Rattle.sw_world_stands.proofs.Rows.{rows_ext, changed, set_same, set_twice}
 

@@ -1,5 +1,5 @@
 pub mod Gets
 pub mod Rows
 pub mod Goes
-pub mod Links
+pub mod Arrivals
 pub mod Starts

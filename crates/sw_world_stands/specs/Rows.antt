@@ -15,9 +15,9 @@ use Rattle.sw_world_places.specs.declared.place.Place.{Place}
 use Rattle.sw_world_stands.specs.Asked.{bare_of, got_of, next_of}
 
 -- what is next for an actor, its pipe, and the room there
-pub record PlaceStands (t : Terms) (q : Place) (next : Pending) (pipe : List Message) : Type 0 where
-  pub next : next_of q.next ≡ next
-  pub pipe : map bare_of q.inbox.waiting ≡ pipe
+pub record PlaceStands (t : Terms) (q : Place) (x : Pending) (ms : List Message) : Type 0 where
+  pub next : next_of q.next ≡ x
+  pub pipe : map bare_of q.inbox.waiting ≡ ms
   pub room : q.inbox.room ≡ t.pipe_capacity
 
 -- the place of this number stands for an actor's

@@ -1,4 +1,4 @@
-use Rattle.sw_world_stands.proofs.Links.{accepts_stand}
+use Rattle.sw_world_stands.proofs.Arrivals.{accepts_stand}
 use Rattle.sw_world_stands.proofs.links.accepted_links_stand.Goals as goal
 
 pub returns : goal.returns

@@ -1,4 +1,4 @@
-use Rattle.sw_world_stands.proofs.Links.{comes_stand}
+use Rattle.sw_world_stands.proofs.Arrivals.{comes_stand}
 use Rattle.sw_world_stands.proofs.links.arrivals_stand.Goals as goal
 
 pub returns : goal.returns

@@ -1,4 +1,4 @@
-use Rattle.sw_world_stands.proofs.Links.{keeps_stand}
+use Rattle.sw_world_stands.proofs.Arrivals.{keeps_stand}
 use Rattle.sw_world_stands.proofs.links.kept_steps_stand.Goals as goal
 
 pub returns : goal.returns

@@ -1,4 +1,4 @@
-use Rattle.sw_world_stands.proofs.Links.{none_stand}
+use Rattle.sw_world_stands.proofs.Arrivals.{none_stand}
 use Rattle.sw_world_stands.proofs.links.no_links_stand.Goals as goal
 
 pub returns : goal.returns

@@ -1,4 +1,4 @@
-use Rattle.sw_world_stands.proofs.Links.{takes_stand}
+use Rattle.sw_world_stands.proofs.Arrivals.{takes_stand}
 use Rattle.sw_world_stands.proofs.links.taken_steps_stand.Goals as goal
 
 pub returns : goal.returns
