@@ -14,8 +14,8 @@ use Rattle.sw_port_shelf.specs.declared.shelf.Placed.{Placed}
 use Rattle.sw_record.specs.Words.{Event, Table, Stats, Shutdown, Done, Counter, TableIs, TableRefused, NoTable, Count, Asked}
 use Rattle.sw_record.specs.Terms.{Terms}
 use Rattle.sw_port_board.specs.declared.board.BoardStep.TheVariants.{Stopped}
-use Rattle.sw_world_ports.specs.Calls.{Did, Stops, Sums as SumsUp, Tables, TableRefuses}
-use Rattle.sw_hand_calls.specs.Calls.{PortCall, Called, Summed, Stepped, Rules, answers_calls, refused_calls, seen_calls, table_calls, sums_calls, shuts_calls}
+use Rattle.sw_world_ports.specs.Calls.{Stops, Sums as SumsUp, Tables, TableRefuses}
+use Rattle.sw_hand_calls.specs.Calls.{Called, Summed, Stepped, Rules, answers_calls, refused_calls, seen_calls, table_calls, sums_calls, shuts_calls}
 use Rattle.sw_world_hands.specs.Calls.{calls}
 use Rattle.sw_hand.specs.Stage.{current_of}
 use Rattle.sw_hand.specs.Calling.{is_busy, CallsRefused, cells_of, CallsSeen, CallsAs, Calls, Sums, Shuts}

@@ -7,7 +7,7 @@ use Rattle.sw_data.specs.declared.messages.Msg.{Msg}
 use Rattle.sw_data.specs.declared.messages.Target.{Target}
 use Rattle.sw_data.specs.declared.messages.Target.TheVariants as targets
 use Rattle.sw_data.specs.declared.messages.Ask.{Ask as CodeAsk}
-use Rattle.sw_record.specs.Words.{Event, Connect, Packet, Closed, Finish, Task, Done}
+use Rattle.sw_record.specs.Words.{Event, Connect, Packet, Closed, Finish, Task}
 use Rattle.sw_record.specs.Terms.{Terms, keeps}
 use Rattle.sw_past.specs.Messages.{Message, NoMore, message_of}
 use Rattle.sw_hand.specs.Stage.{current_of}
@@ -20,7 +20,7 @@ use Rattle.sw_hand.specs.declared.house.Kind.TheVariants as kinds
 use Rattle.sw_hand.specs.declared.stage.Current.{Current}
 use Rattle.sw_hand.specs.declared.stage.Stage.{Stage as CodeStage}
 use Rattle.sw_hand.specs.declared.stage.Stage.TheVariants as stages
-use Rattle.sw_hand_laws.specs.Hand.{Push, Idle, Acting, Leaving, Stopping, Stopped, Hand, bye_to, last_words, goodbye, goodbyes, enders, done, stop_if, stop_at, go_if, may_stop, go_on}
+use Rattle.sw_hand_laws.specs.Hand.{Push, Idle, Leaving, Stopping, Stopped, Hand, bye_to, last_words, goodbye, goodbyes, enders, done, stop_if, stop_at, go_if, may_stop, go_on}
 use Rattle.sw_hand_fits.specs.Matches.{actor_of, receiver_of, HouseFits, Matches, StageFits, BothIdle, BothLeaving, BothStopping, BothOver, ask_of, Came}
 use Rattle.sw_hand_fits.proofs.Basics.{min_low, min_high, stays, keeps_same, reactor_same}
 

@@ -1,5 +1,5 @@
 -- Tasks and finishes come to what the tables say.
-use Rattle.std.proofs.Common.{◌≡◌, ℕ, ◌<◌, ◌+◌, ◌-◌, ◌%◌, ◌^◌, ◌==◌, ltb, Bool, true, false, if◌then◌else◌, List, [], ◌∷◌, refl, ap, ◌∙◌, sym, subst, Option, Some, None, inl, inr, arith}
+use Rattle.std.proofs.Common.{◌≡◌, ℕ, ◌<◌, ◌+◌, ◌-◌, ◌%◌, ◌^◌, ◌==◌, ltb, Bool, true, false, if◌then◌else◌, List, [], ◌∷◌, refl, ap, ◌∙◌, sym, subst, Option, Some, None, arith}
 use Rattle.std.proofs.lemmas.Nat.{mod_below}
 use Rattle.sw_lists.proofs.Lists.{eq_same}
 use Rattle.sw_step.specs.declared.actor.ActorId.{ActorId}
@@ -17,7 +17,7 @@ use Rattle.sw_record.specs.Terms.{Terms}
 use Rattle.sw_past.specs.Messages.{EventMsg}
 use Rattle.sw_world_ports.specs.Calls.{Did, Idles}
 use Rattle.sw_hand.specs.Ports.{Going}
-use Rattle.sw_hand_calls.specs.Calls.{PortCall, Idled, Rules, posts_calls, finishes_calls}
+use Rattle.sw_hand_calls.specs.Calls.{Idled, Rules, posts_calls, finishes_calls}
 use Rattle.sw_world_hands.specs.Calls.{posts_fit, posts_to, posts_some, posts}
 use Rattle.sw_hand.specs.Stage.{current_of}
 use Rattle.sw_hand.specs.House.{number_of}

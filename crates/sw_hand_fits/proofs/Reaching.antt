@@ -1,5 +1,5 @@
 -- Acts on a session come to what the tables say.
-use Rattle.std.proofs.Common.{◌≡◌, ℕ, zero, suc, ◌<◌, ◌==◌, Bool, true, false, if◌then◌else◌, List, [], ◌∷◌, refl, ap, ◌∙◌, sym, subst, Result, Ok, Err, Option, inl, inr, arith, ◌%◌}
+use Rattle.std.proofs.Common.{◌≡◌, ℕ, zero, suc, ◌<◌, ◌==◌, Bool, true, false, if◌then◌else◌, [], ◌∷◌, refl, ap, ◌∙◌, sym, subst, Result, Ok, Err, Option, arith, ◌%◌}
 use Rattle.sw_step.specs.declared.actor.ActorId.{ActorId}
 use Rattle.sw_step.specs.declared.actor.ActorId.TheVariants as actors
 use Rattle.sw_data.specs.declared.messages.Msg.{Msg}
@@ -14,10 +14,10 @@ use Rattle.sw_record.specs.Words.{Event, Act, Bind, Exist, Info, Done, Answer, N
 use Rattle.sw_record.specs.Terms.{Terms, reactor_of}
 use Rattle.sw_record.specs.Fits.{is_own}
 use Rattle.sw_past.specs.Messages.{Message, message_of}
-use Rattle.sw_world_ports.specs.Calls.{Did, Looks as LooksAt, Binds as BindsTo}
+use Rattle.sw_world_ports.specs.Calls.{Looks as LooksAt, Binds as BindsTo}
 use Rattle.sw_world_fits.specs.Book.{seen_of, got_of as bind_got}
 use Rattle.sw_hand.specs.Ports.{Binding}
-use Rattle.sw_hand_calls.specs.Calls.{PortCall, Looked, Bound as BoundTo, Rules, reach_seen_calls, reaches_calls, answers_calls, tells_calls, binds_calls}
+use Rattle.sw_hand_calls.specs.Calls.{Looked, Bound as BoundTo, Rules, reach_seen_calls, reaches_calls, answers_calls, tells_calls, binds_calls}
 use Rattle.sw_world_hands.specs.Calls.{looks, binds}
 use Rattle.sw_hand.specs.Stage.{current_of, answer_of}
 use Rattle.sw_hand.specs.House.{fd_of, reactor_of as code_reactor_of}
@@ -29,7 +29,7 @@ use Rattle.sw_hand.specs.declared.stage.Current.{Current}
 use Rattle.sw_hand.specs.declared.stage.Errand.{Errand}
 use Rattle.sw_hand_laws.specs.Hand.{Ports, Acting, Hand, live_too, other_too, uid_too, pass_too, bound_too, reach, exist, info, bind}
 use Rattle.sw_hand_laws.specs.Moved.{PortsFit, BindFits}
-use Rattle.sw_hand_fits.specs.Matches.{Matches, IsErrand, Outcome, Went}
+use Rattle.sw_hand_fits.specs.Matches.{Matches, IsErrand, Went}
 use Rattle.sw_hand_fits.proofs.Basics.{plain, answers, behind, alone, asked_came, own_same, reactor_same, fd_same}
 
 -- Send, Close and Reset

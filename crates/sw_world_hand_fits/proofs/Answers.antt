@@ -14,16 +14,16 @@ use Rattle.sw_port_board.specs.declared.board.BoardStep.TheVariants as steps
 use Rattle.sw_port_board.specs.declared.crew.Crew.TheVariants.{Taskers}
 use Rattle.sw_port_board.specs.Board.{FindsIdle, found_busy, first_of, reads, members}
 use Rattle.sw_port_board.specs.PlainBoard.{PlainWords, plain_after, PlainGoes}
-use Rattle.sw_port_book.specs.Answers.{look_answer, bind_answer, Looks as LooksAt, Binds as BindsTo}
+use Rattle.sw_port_book.specs.Answers.{look_answer, bind_answer}
 use Rattle.sw_port_book.specs.Plain.{Words, word_of, bound}
 use Rattle.sw_port_book.specs.declared.answers.Look.{Look}
 use Rattle.sw_port_book.specs.declared.answers.BindFault.{BindFault}
 use Rattle.sw_port_shelf.specs.declared.shelf.Placed.{Placed}
-use Rattle.sw_table_laws.specs.Table.{Shape, State, TStep, Step, shown, set_step, get_step, del_step, add_step, add, may_write, row_of}
+use Rattle.sw_table_laws.specs.Table.{Shape, State, TStep, shown, set_step, get_step, del_step, add_step, add, may_write, row_of}
 use Rattle.sw_table_laws.specs.Rows.{with_value, with_pairs, number_of as number_in, size_of}
 use Rattle.sw_column.specs.Fit.{fits}
 use Rattle.sw_base.specs.declared.table.Value.TheVariants as values
-use Rattle.sw_tmodel.specs.Plain.{PlainTable, shape_of, IsCall}
+use Rattle.sw_tmodel.specs.Plain.{PlainTable, shape_of}
 use Rattle.sw_record.specs.Words.{Counter}
 use Rattle.sw_record.specs.Counts.{greatest}
 use Rattle.sw_record.specs.Terms.{Terms}
@@ -31,9 +31,9 @@ use Rattle.sw_join.specs.Legal.{LegalFor}
 use Rattle.sw_world_ports.specs.Calls.{Did, Looks, Binds, Marks, Idles, Stops, SeesStop, Adds, Sums, Tables, TableRefuses, ZeroUid}
 use Rattle.sw_world_ports.specs.Made.{same_counter}
 use Rattle.sw_world_ports.specs.Ports.{Ports, Answers, ported, AllAnswer, all_ported}
-use Rattle.sw_world_fits.specs.Book.{BookStands, seen_of, got_of as bind_got}
-use Rattle.sw_world_fits.specs.Board.{number_of, IsThere, BoardStands}
-use Rattle.sw_world_fits.specs.Table.{TableStands, ran_of}
+use Rattle.sw_world_fits.specs.Book.{seen_of, got_of as bind_got}
+use Rattle.sw_world_fits.specs.Board.{IsThere, BoardStands}
+use Rattle.sw_world_fits.specs.Table.{ran_of}
 use Rattle.sw_world_fits.proofs.Book.{look_fits, bind_fits, zero_fits}
 use Rattle.sw_world_fits.proofs.Board.{stop_fits, stopped_fits, add_fits, mark_fits, sum_fits, idle_fits}
 use Rattle.sw_world_fits.proofs.Table.{refused_fits, placed_fits}

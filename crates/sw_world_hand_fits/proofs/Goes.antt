@@ -1,5 +1,5 @@
 -- A turn of a hand's code over the plain ports is a turn of the family, with the calls that it made.
-use Rattle.std.proofs.Common.{◌≡◌, ◌⊎◌, ℕ, zero, suc, ◌+◌, ◌<◌, ◌≤◌, ◌==◌, nat_eq, min, Bool, true, false, if◌then◌else◌, List, [], ◌∷◌, ◌++◌, length, refl, ap, ◌∙◌, sym, subst, append-nil, arith, Option, Some, None, Result, Ok, Err, inl, inr}
+use Rattle.std.proofs.Common.{◌≡◌, ◌⊎◌, ℕ, ◌≤◌, nat_eq, Bool, true, false, if◌then◌else◌, List, [], ◌∷◌, refl, ap, ◌∙◌, sym, subst, Option, Some, None, Result, Ok, Err, inl, inr}
 use Rattle.sw_lists.specs.Lists.{collect, Each}
 use Rattle.sw_lists.proofs.Lists.{each_append}
 use Rattle.sw_step.specs.declared.actor.ActorId.{ActorId}
@@ -21,25 +21,24 @@ use Rattle.sw_table_laws.specs.Table.{Shape}
 use Rattle.sw_tmodel.specs.Plain.{PlainTable, spent_fault, IsCall}
 use Rattle.sw_record.specs.Words.{Log}
 use Rattle.sw_record.specs.Terms.{Terms}
-use Rattle.sw_join.specs.Legal.{LegalFor}
 use Rattle.sw_past.specs.Routes.{IsHand as IsHandOf}
 use Rattle.sw_world_ports.specs.Calls.{Did, Stops}
-use Rattle.sw_world_ports.specs.Ports.{Ports as WorldPorts, AllAnswer, all_ported}
+use Rattle.sw_world_ports.specs.Ports.{Ports as WorldPorts}
 use Rattle.sw_world_laws.specs.Turns.{Got}
 use Rattle.sw_world_fits.specs.Board.{IsThere}
 use Rattle.sw_hand.specs.Ports.{Acting}
 use Rattle.sw_hand.specs.Hand.{IsHand}
 use Rattle.sw_hand.specs.declared.hand.Hand.{Hand as CodeHand}
-use Rattle.sw_hand_calls.specs.Calls.{PortCall, Rules, around, turn_calls_of, TurnsBy}
-use Rattle.sw_hand_laws.specs.Hand.{Got as HandGot, Ports, Turned}
+use Rattle.sw_hand_calls.specs.Calls.{PortCall, around, turn_calls_of, TurnsBy}
+use Rattle.sw_hand_laws.specs.Hand.{Ports, Turned}
 use Rattle.sw_hand_laws.specs.Keeps.{Carries}
 use Rattle.sw_hand_laws.specs.Kept.{GotFits}
 use Rattle.sw_hand_laws.specs.Moved.{PortsFit}
-use Rattle.sw_hand_fits.specs.Matches.{GotIs, BothStart, BothTook, BothEmpty, BothPushed, BothFull, BothNothing, IsNumberedStage, IsNumberedGot, CallsMay, ask_of, did_in, gave_in, Starves, Comes, Outcome}
+use Rattle.sw_hand_fits.specs.Matches.{GotIs, BothStart, BothTook, BothEmpty, BothPushed, BothFull, BothNothing, IsNumberedStage, IsNumberedGot, did_in, gave_in, Outcome}
 use Rattle.sw_hand_fits.proofs.Turn.{turn_fits}
-use Rattle.sw_world_hands.specs.Hands.{HandState, hand_got, world_ask, turned, dids_of, HandTurn, HandFails}
+use Rattle.sw_world_hands.specs.Hands.{HandState, hand_got, world_ask, turned, dids_of, HandFails}
 use Rattle.sw_world_hand_fits.specs.Plain.{plain_rules, Stands, IsSound}
-use Rattle.sw_world_hand_fits.specs.Hands.{world_got, world_asks, HandIs, Gone, Went}
+use Rattle.sw_world_hand_fits.specs.Hands.{world_got, HandIs, Gone, Went}
 use Rattle.sw_world_hand_fits.proofs.Answers.{calls_answered}
 use Rattle.sw_world_hand_fits.proofs.Sound.{sound_turn}
 

@@ -1,5 +1,5 @@
 -- A worker's handlers go on as the tables' do.
-use Rattle.std.proofs.Common.{◌≡◌, ◌⊎◌, ℕ, zero, suc, ◌+◌, ◌-◌, ◌<◌, ◌≤◌, ◌==◌, nat_lt, ltb, min, Bool, true, false, if◌then◌else◌, List, [], ◌∷◌, ◌++◌, length, refl, ap, ◌∙◌, sym, subst, append-nil, arith, inl, inr}
+use Rattle.std.proofs.Common.{◌≡◌, ◌⊎◌, ℕ, ◌+◌, ◌-◌, ◌<◌, ◌≤◌, ◌==◌, nat_lt, ltb, min, Bool, true, false, if◌then◌else◌, List, [], ◌∷◌, ◌++◌, length, refl, ap, ◌∙◌, sym, subst, append-nil, arith, inl, inr}
 use Rattle.std.proofs.lemmas.Bool.Decides.{nat_tests}
 use Rattle.std.proofs.lemmas.List.{length-set}
 use Rattle.sw_lists.specs.Lists.{collect}
@@ -11,7 +11,7 @@ use Rattle.sw_tmodel.specs.Plain.{PlainTable}
 use Rattle.sw_record.specs.Words.{Event, Act, Answer, Given, EventGiven, AnswerGiven, Log}
 use Rattle.sw_record.specs.Terms.{Terms}
 use Rattle.sw_hand.specs.Ports.{Acting}
-use Rattle.sw_hand_calls.specs.Calls.{PortCall, Gave, Starved, Looked, Bound, Called, Idled, Summed, Stepped, Around, IsMade, AreMade}
+use Rattle.sw_hand_calls.specs.Calls.{PortCall, Gave, Starved, Looked, Bound, Called, Idled, Summed, Stepped, Around, AreMade}
 use Rattle.sw_worker.specs.Generations.{Line, is_due as line_due, renewed, counted, Acts, ActsAt}
 use Rattle.sw_hand_laws.specs.Hand.{Stage, Hand, is_due}
 use Rattle.sw_hand_laws.specs.Moved.{Moved, Waits, Answers, Aims, Sends, Fulls, Hears, Skips, Overs, Leaves, Lefts, Stops, Nones, SkipStops, SkipNones, Nexts, Lasts}

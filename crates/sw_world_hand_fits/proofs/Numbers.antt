@@ -1,13 +1,13 @@
 -- A hand whose handler acts on sessions other than 0 stays with such sessions.
-use Rattle.std.proofs.Common.{◌≡◌, ℕ, ltb, Bool, true, false, List, [], ◌∷◌, ◌++◌, refl, ap, ◌∙◌, sym, subst, append-nil}
-use Rattle.sw_lists.specs.Lists.{collect, Each}
+use Rattle.std.proofs.Common.{◌≡◌, ℕ, ltb, Bool, true, false, List, [], ◌∷◌, ◌++◌, refl, ◌∙◌, sym, subst}
+use Rattle.sw_lists.specs.Lists.{Each}
 use Rattle.sw_step.specs.declared.actor.ActorId.{ActorId}
-use Rattle.sw_record.specs.Words.{Event, Given, EventGiven, AnswerGiven, Act, Answer, TaskFull, Log}
+use Rattle.sw_record.specs.Words.{Event, Given, EventGiven, AnswerGiven, Act, TaskFull, Log}
 use Rattle.sw_record.specs.Terms.{Terms}
 use Rattle.sw_past.specs.Messages.{Message, FreshMsg, SendMsg, CloseMsg, ResetMsg, Bye, EventMsg, OverMsg, NoMore}
 use Rattle.sw_past.specs.Views.{event_in, for_hand}
 use Rattle.sw_hand.specs.Ports.{Acting as Handling}
-use Rattle.sw_hand_laws.specs.Hand.{Got, Start, Took, Empty, Pushed, Full, Nothing, Ports, Stage, Idle, Acting, Sending, Leaving, Stopping, Stopped, Hand, Turned, goodbyes, skip, stop_if, go_if, may_stop, go_on, took_event, took_turn, idle_turn, turn}
+use Rattle.sw_hand_laws.specs.Hand.{Got, Start, Took, Empty, Pushed, Full, Nothing, Ports, Stage, Idle, Acting, Sending, Leaving, Stopping, Stopped, Hand, goodbyes, skip, stop_if, go_if, may_stop, took_event, took_turn, idle_turn, turn}
 use Rattle.sw_hand_laws.specs.Kept.{GotFits}
 use Rattle.sw_hand_laws.specs.Moved.{PortsFit, Moved, Waits, Answers, Aims, Sends, Fulls, Hears, Skips, Overs, Leaves, Lefts, Stops, Nones, SkipStops, SkipNones, Nexts, Lasts}
 use Rattle.sw_hand_laws.proofs.Moves.{turn_moves}

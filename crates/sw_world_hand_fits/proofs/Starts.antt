@@ -1,9 +1,9 @@
 -- A new worker and a new task worker are the family's first states.
-use Rattle.std.proofs.Common.{◌≡◌, ℕ, zero, suc, ◌+◌, ◌<◌, min, Bool, true, false, List, [], ◌∷◌, length, replicate, slice_index_or, refl, ap, ◌∙◌, sym, subst, arith, None, inl, inr}
+use Rattle.std.proofs.Common.{◌≡◌, ℕ, zero, suc, ◌+◌, List, length, replicate, slice_index_or, refl, ap, arith, None, inr}
 use Rattle.sw_step.specs.declared.actor.ActorId.TheVariants.{Worker, Tasker}
 use Rattle.sw_base.specs.declared.table.Value.{Value}
 use Rattle.sw_record.specs.Terms.{Terms}
-use Rattle.sw_hand.specs.House.{IsHouse, enders}
+use Rattle.sw_hand.specs.House.{IsHouse}
 use Rattle.sw_hand.specs.Hand.{own_room}
 use Rattle.sw_hand.specs.declared.house.House.{House}
 use Rattle.sw_hand.specs.declared.house.Kind.TheVariants as kinds

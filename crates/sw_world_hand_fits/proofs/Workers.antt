@@ -15,7 +15,6 @@ use Rattle.sw_hand.specs.Ports.{Acting}
 use Rattle.sw_hand.specs.declared.hand.Hand.{Hand as CodeHand}
 use Rattle.sw_hand_calls.specs.Calls.{PortCall, around, AreMade}
 use Rattle.sw_worker.specs.Generations.{Line, Acts}
-use Rattle.sw_hand_laws.specs.Hand.{Hand}
 use Rattle.sw_hand_laws.specs.Kept.{GotFits}
 use Rattle.sw_hand_laws.proofs.Moves.{turn_moves}
 use Rattle.sw_hand_fits.specs.Matches.{gave_in, IsNumberedGot}

@@ -1,5 +1,5 @@
 -- The plain ports of a hand's code, as the world's ports have them.
-use Rattle.std.specs.Prelude.{◌≡◌, ℕ, ◌<◌, ◌≤◌, true}
+use Rattle.std.specs.Prelude.{◌≡◌, ◌<◌, ◌≤◌, true}
 use Rattle.sw_step.specs.declared.actor.ActorId.{ActorId}
 use Rattle.sw_port_book.specs.Plain.{Words, word_of, bound}
 use Rattle.sw_port_board.specs.PlainBoard.{PlainWords, PlainGoes}
@@ -12,7 +12,7 @@ use Rattle.sw_join.specs.Legal.{LegalFor}
 use Rattle.sw_world_ports.specs.Calls.{Did, Looks, Binds, Idles}
 use Rattle.sw_world_ports.specs.Ports.{Ports}
 use Rattle.sw_world_fits.specs.Book.{BookStands}
-use Rattle.sw_world_fits.specs.Board.{number_of, IsThere, BoardStands}
+use Rattle.sw_world_fits.specs.Board.{number_of, BoardStands}
 use Rattle.sw_world_fits.specs.Table.{TableStands}
 use Rattle.sw_hand.specs.Ports.{Acting}
 use Rattle.sw_hand_calls.specs.Calls.{Rules, rules_of, Around}

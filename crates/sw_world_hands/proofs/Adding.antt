@@ -1,5 +1,5 @@
 -- What the calls of a turn add to what the ports showed, and what its log tells of them.
-use Rattle.std.proofs.Common.{◌≡◌, ◌⊎◌, ℕ, ◌^◌, ◌-◌, ◌%◌, ◌==◌, Bool, true, false, if◌then◌else◌, List, [], ◌∷◌, ◌++◌, length, suc, ltb, refl, ap, ◌∙◌, sym, subst, Option, Result, Ok, Err, inl, inr}
+use Rattle.std.proofs.Common.{◌≡◌, ◌⊎◌, ℕ, ◌^◌, ◌-◌, ◌%◌, ◌==◌, Bool, true, false, if◌then◌else◌, List, [], ◌∷◌, ◌++◌, length, suc, ltb, refl, ap, ◌∙◌, sym, subst, Result, Ok, Err, inl, inr}
 use Rattle.sw_lists.specs.Lists.{collect}
 use Rattle.sw_step.specs.declared.actor.ActorId.{ActorId}
 use Rattle.sw_step.specs.declared.actor.ActorId.TheVariants.{Door, Reactor, Worker, Tasker}
@@ -11,7 +11,7 @@ use Rattle.sw_port_book.specs.declared.answers.BindFault.{BindFault}
 use Rattle.sw_port_book.specs.declared.answers.BindFault.TheVariants as fault
 use Rattle.sw_port_shelf.specs.declared.shelf.Placed.{Placed}
 use Rattle.sw_record.specs.Words.{Event, Connect, Packet, Closed, Finish, Task, Act, Send, Close, Reset, Bind, Exist, Info, TaskAct, FinishAct, Table, Stats, Shutdown, Done, Dst, Any, At, Answer, Sent, Asked, BindOk, Exists, InfoIs, Posted, Finished, TableIs, TableRefused, Count, NoSession, Bound, BadUid, WrongMode, TaskFull, BadTarget, NoTaskWorkers, IdsSpent, NotHere, NoTable, AnswerGiven, Call, CallFault, Counter, AcceptedCount, EndedCount, PacketsCount, SendsCount, TasksCount, FinishesCount, Log}
-use Rattle.sw_record.specs.Terms.{Terms, reactor_of}
+use Rattle.sw_record.specs.Terms.{Terms}
 use Rattle.sw_record.specs.Fits.{is_own}
 use Rattle.sw_record.specs.Answers.{answers_of}
 use Rattle.sw_record.specs.Counts.{counted, count_in}
@@ -20,7 +20,7 @@ use Rattle.sw_past.specs.Said.{last_after}
 use Rattle.sw_past.specs.Views.{for_hand}
 use Rattle.sw_world_ports.specs.Calls.{Did, Sums}
 use Rattle.sw_world_ports.specs.Made.{live_in, other_in, pass_in, found_in, had_in, seat_in, spent_in, stop_in, add_in, sum_in}
-use Rattle.sw_hand_laws.specs.Hand.{Got, Start, Took, Empty, Pushed, Full, Nothing, Ports, Seen, Stage, Idle, Acting, Sending, Leaving, Stopping, Stopped, Hand, Turned, last_words, goodbye, hear, skip, settle, reach_seen, reach, exist_seen, exist, info_seen, info, bind_seen, bind, is_there, post_fit, post_to, post_some, post, finish, call_refused, call_seen, call, done, make, full, sending, leaving, stop_if, stopping, go_if, may_stop, go_on, goodbyes, took_event, took_turn, idle_turn, turn}
+use Rattle.sw_hand_laws.specs.Hand.{Got, Start, Took, Empty, Pushed, Full, Nothing, Ports, Seen, Stage, Idle, Acting, Sending, Leaving, Stopping, Stopped, Hand, Turned, last_words, goodbye, skip, settle, reach_seen, reach, exist_seen, exist, info_seen, info, bind_seen, bind, is_there, post_fit, post_to, post_some, post, finish, call_refused, call_seen, call, done, make, full, sending, leaving, stop_if, stopping, go_if, may_stop, go_on, goodbyes, took_event, took_turn, idle_turn, turn}
 use Rattle.sw_hand_laws.specs.Keeps.{Carried, CSend, CClose, CReset, CPost, CGive, silent}
 use Rattle.sw_hand_laws.specs.Kept.{Kept, PushFits, GotFits}
 use Rattle.sw_hand_laws.specs.Shows.{onto}

@@ -1,5 +1,5 @@
 -- Behind a turn its calls still are what the tables say that its ports showed.
-use Rattle.std.proofs.Common.{◌≡◌, ◌⊎◌, ℕ, ◌+◌, ◌≤◌, List, [], ◌∷◌, ◌++◌, length, refl, ap, ◌∙◌, sym, subst, append-nil, append_assoc, arith, inl, inr}
+use Rattle.std.proofs.Common.{◌≡◌, ◌⊎◌, ℕ, ◌+◌, ◌≤◌, List, [], ◌∷◌, ◌++◌, length, ap, ◌∙◌, sym, subst, append-nil, append_assoc, arith, inl, inr}
 use Rattle.sw_lists.specs.Lists.{collect, Has}
 use Rattle.sw_lists.proofs.Lists.{collect-append, length_append}
 use Rattle.sw_record.specs.Words.{Act, Stats, Answer, Count, Counter, Log}

@@ -1,11 +1,11 @@
 -- Workers and task workers as a family of actors.
-use Rattle.std.proofs.Common.{◌≡◌, ◌⊎◌, ℕ, ◌+◌, ◌<◌, nat_lt, Bool, true, false, List, [], ◌∷◌, ◌++◌, length, refl, ap, ◌∙◌, sym, subst, arith, inl, inr}
+use Rattle.std.proofs.Common.{◌≡◌, ℕ, Bool, true, false, List, [], ◌∷◌, refl, ap, ◌∙◌, sym, subst, arith, inl, inr}
 use Rattle.std.proofs.lemmas.Bool.Decides.{nat_tests}
 use Rattle.sw_lists.specs.Lists.{Each}
 use Rattle.sw_lists.proofs.Lists.{each_append, append_none}
 use Rattle.sw_step.specs.declared.actor.ActorId.{ActorId}
 use Rattle.sw_step.specs.declared.actor.ActorId.TheVariants.{Door, Reactor, Worker, Tasker}
-use Rattle.sw_record.specs.Words.{Event, Connect, Packet, Closed, Finish, Task, Act, Send, Close, Reset, Bind, Exist, Info, TaskAct, FinishAct, Table, Stats, Shutdown, Done, Dst, Any, At, Answer, Sent, Asked, BindOk, Exists, InfoIs, Posted, Finished, TableIs, TableRefused, Count, NoSession, Bound, BadUid, WrongMode, TaskFull, BadTarget, NoTaskWorkers, IdsSpent, NotHere, NoTable, Call, CallFault, Given, Log}
+use Rattle.sw_record.specs.Words.{Event, Act, Send, Close, Reset, Bind, Exist, Info, TaskAct, FinishAct, Table, Stats, Shutdown, Done, Dst, Any, At, Answer, Sent, Asked, BindOk, Exists, InfoIs, Posted, Finished, TableIs, TableRefused, Count, NoSession, Bound, BadUid, WrongMode, TaskFull, BadTarget, NoTaskWorkers, IdsSpent, NotHere, NoTable, Call, CallFault, Log}
 use Rattle.sw_column.specs.declared.column.Column.{Column}
 use Rattle.sw_port_book.specs.declared.answers.Look.{Look}
 use Rattle.sw_port_book.specs.declared.answers.BindFault.{BindFault}
@@ -19,12 +19,10 @@ use Rattle.sw_past.specs.Past.{Mail}
 use Rattle.sw_past.specs.Routes.{IsHand}
 use Rattle.sw_world_ports.specs.Calls.{Did, MayDo, Stops}
 use Rattle.sw_world_laws.specs.Turns.{Ask, Got, GotStart, Diary, no_diary, with_dids}
-use Rattle.sw_world_laws.specs.Actors.{IsSettled, Grows, Feed, Actors}
+use Rattle.sw_world_laws.specs.Actors.{IsSettled, Grows, Actors}
 use Rattle.sw_world_laws.specs.Account.{untold}
-use Rattle.sw_world_laws.specs.Shows.{LostShows}
 use Rattle.sw_hand_laws.specs.Hand.{Got as HandGot, Start, Took, Empty, Pushed, Full, Nothing, Ports, Stage, Idle, Acting, Sending, Leaving, Stopping, Stopped, Hand, is_there, turn}
-use Rattle.sw_hand_laws.specs.Kept.{Kept, sent}
-use Rattle.sw_hand_laws.specs.Course.{new}
+use Rattle.sw_hand_laws.specs.Kept.{sent}
 use Rattle.sw_hand_laws.specs.Settled.{IsSettled as HandSettled}
 use Rattle.sw_hand_laws.proofs.Course.{new_good}
 use Rattle.sw_hand_laws.proofs.Settled.{turn_settles}

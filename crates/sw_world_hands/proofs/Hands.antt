@@ -1,24 +1,23 @@
 -- Each turn of a hand keeps its law, whatever the pipe then answers.
-use Rattle.std.proofs.Common.{◌≡◌, ◌⊎◌, ℕ, ◌+◌, ◌<◌, ◌≤◌, Bool, true, false, nat_lt, if◌then◌else◌, List, [], ◌∷◌, ◌++◌, length, refl, ap, ◌∙◌, sym, subst, append-nil, arith, inl, inr}
+use Rattle.std.proofs.Common.{◌≡◌, ◌⊎◌, ℕ, ◌+◌, List, [], ◌∷◌, ◌++◌, refl, ap, ◌∙◌, sym, subst, arith, inl, inr}
 use Rattle.std.proofs.lemmas.Bool.{cases_lt}
-use Rattle.std.proofs.lemmas.Bool.Decides.{nat_tests}
-use Rattle.sw_lists.specs.Lists.{collect, Each, Has}
+use Rattle.sw_lists.specs.Lists.{Has}
 use Rattle.sw_step.specs.declared.actor.ActorId.{ActorId}
 use Rattle.sw_step.specs.declared.actor.ActorId.TheVariants.{Door, Reactor, Worker, Tasker}
-use Rattle.sw_record.specs.Words.{Event, Act, Send, Close, Reset, Bind, Exist, Info, TaskAct, FinishAct, Table, Stats, Shutdown, Done, Dst, Answer, Log}
+use Rattle.sw_record.specs.Words.{Event, Send, Close, Reset, Bind, Exist, Info, TaskAct, FinishAct, Table, Stats, Shutdown, Done, Dst, Answer}
 use Rattle.sw_record.specs.Terms.{Terms}
 use Rattle.sw_past.specs.Messages.{Message, NoMore}
 use Rattle.sw_past.specs.Past.{Mail, bare}
 use Rattle.sw_past.specs.Routes.{IsHand}
-use Rattle.sw_world_ports.specs.Calls.{Did, Stops}
+use Rattle.sw_world_ports.specs.Calls.{Did}
 use Rattle.sw_world_ports.proofs.Haves.{has_left, has_right, has_split, has_one}
 use Rattle.sw_world_laws.specs.Turns.{Ask, AskTake, AskPush, AskNothing, AskRest, AskFinished, Got, GotStart, GotTook, GotEmpty, GotPushed, GotFull, GotNothing, Diary, with_dids, HasPipe, After}
-use Rattle.sw_world_laws.specs.Shows.{Shows, LostShows}
+use Rattle.sw_world_laws.specs.Shows.{Shows}
 use Rattle.sw_world_laws.specs.Done.{DoneShows}
 use Rattle.sw_world_laws.specs.Account.{untold}
-use Rattle.sw_hand_laws.specs.Hand.{Got as HandGot, Start, Took, Empty, Pushed, Full, Nothing, Ask as HandAsk, Take, Push, Rest, AskNothing as NothingAsked, AskFinished as FinishedAsked, Ports, Stage, Idle, Acting, Sending, Leaving, Stopping, Stopped, Hand, Turned, goodbye, turn}
+use Rattle.sw_hand_laws.specs.Hand.{Got as HandGot, Took, Pushed, Full, Ask as HandAsk, Take, Push, Rest, AskNothing as NothingAsked, AskFinished as FinishedAsked, Ports, Stage, Idle, Acting, Sending, Leaving, Stopping, Stopped, Hand, goodbye, turn}
 use Rattle.sw_hand_laws.specs.Keeps.{IsPresent, Carried, CPost}
-use Rattle.sw_hand_laws.specs.Kept.{Kept, AskFits, After as PipeGives, GotFits, Shown, taken, sent, flight}
+use Rattle.sw_hand_laws.specs.Kept.{Kept, AskFits, After as PipeGives, Shown, taken, sent, flight}
 use Rattle.sw_hand_laws.specs.Fits.{Fitting}
 use Rattle.sw_hand_laws.specs.Moved.{PortsFit}
 use Rattle.sw_hand_laws.specs.Generations.{Generations}
@@ -27,7 +26,7 @@ use Rattle.sw_hand_laws.proofs.Fitting.{turn_fits}
 use Rattle.sw_hand_laws.proofs.Generations.{turn_generations}
 use Rattle.sw_hand_laws.proofs.Moments.{pipe_fits, shows, shown_still, finished}
 use Rattle.sw_hand_laws.proofs.Ends.{bare_more}
-use Rattle.sw_world_hands.specs.Hands.{HandState, hand_got, world_ask, turned, dids_of, HandTurn, HadNoRoom, Refused, CallsShow, HandHolds, HandOver, HandLost}
+use Rattle.sw_world_hands.specs.Hands.{HandState, hand_got, world_ask, turned, dids_of, HandTurn, HadNoRoom, Refused, CallsShow, HandHolds, HandOver}
 use Rattle.sw_world_hands.proofs.Adding.{FullNow, turn_adds}
 use Rattle.sw_world_hands.proofs.Calls.{more_calls}
 use Rattle.sw_world_hands.proofs.Mail.{turn_mail}

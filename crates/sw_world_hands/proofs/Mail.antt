@@ -1,12 +1,12 @@
 -- What a turn took and pushed, once it is settled.
-use Rattle.std.proofs.Common.{◌≡◌, ℕ, suc, ltb, Bool, true, false, List, [], ◌∷◌, ◌++◌, refl, ap, ◌∙◌, sym}
+use Rattle.std.proofs.Common.{◌≡◌, ℕ, suc, ltb, Bool, true, false, List, [], ◌∷◌, refl}
 use Rattle.sw_step.specs.declared.actor.ActorId.{ActorId}
 use Rattle.sw_record.specs.Words.{Event, Act, Send, Close, Reset, Bind, Exist, Info, TaskAct, FinishAct, Table, Stats, Shutdown, Done, Answer}
 use Rattle.sw_record.specs.Terms.{Terms}
 use Rattle.sw_past.specs.Messages.{Message, FreshMsg, SendMsg, CloseMsg, ResetMsg, Bye, EventMsg, OverMsg, NoMore}
 use Rattle.sw_past.specs.Views.{for_hand}
-use Rattle.sw_hand_laws.specs.Hand.{Got, Start, Took, Empty, Pushed, Full, Nothing, Ports, Stage, Idle, Acting, Sending, Leaving, Stopping, Stopped, Hand, Turned, goodbye, goodbyes, settle, skip, full, sending, leaving, stop_if, stopping, go_if, may_stop, go_on, took_event, took_turn, idle_turn, make, turn}
-use Rattle.sw_hand_laws.specs.Kept.{PushFits, GotFits, taken, sent, flight}
+use Rattle.sw_hand_laws.specs.Hand.{Got, Start, Took, Empty, Pushed, Full, Nothing, Ports, Stage, Idle, Acting, Sending, Leaving, Stopping, Stopped, Hand, goodbye, goodbyes, settle, skip, full, sending, leaving, stop_if, stopping, go_if, may_stop, took_event, took_turn, idle_turn, make, turn}
+use Rattle.sw_hand_laws.specs.Kept.{PushFits, GotFits, taken, sent}
 use Rattle.sw_hand_laws.specs.Moved.{PortsFit, Moved, Waits, Answers, Aims, Sends, Fulls, Hears, Skips, Overs, Leaves, Lefts, Stops, Nones, SkipStops, SkipNones, Nexts, Lasts}
 use Rattle.sw_hand_laws.proofs.Moves.{turn_moves}
 

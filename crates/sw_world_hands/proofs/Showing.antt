@@ -1,14 +1,14 @@
 -- What a hand's law shows of it.
-use Rattle.std.proofs.Common.{◌≡◌, ◌⊎◌, ℕ, ◌+◌, ◌<◌, ◌≤◌, ◌%◌, Bool, true, false, List, [], ◌∷◌, ◌++◌, length, refl, ap, ◌∙◌, sym, subst, arith, inl, inr}
+use Rattle.std.proofs.Common.{◌≡◌, ◌⊎◌, ℕ, ◌+◌, ◌≤◌, ◌%◌, Bool, true, false, List, [], ◌∷◌, ◌++◌, length, refl, ap, ◌∙◌, sym, subst, arith, inl, inr}
 use Rattle.sw_lists.specs.Lists.{collect, when, Each, Has, IsPrefix}
 use Rattle.sw_lists.proofs.Lists.{each_at, each_more}
 use Rattle.sw_step.specs.declared.actor.ActorId.{ActorId}
-use Rattle.sw_step.specs.declared.actor.ActorId.TheVariants.{Door, Reactor, Worker, Tasker}
+use Rattle.sw_step.specs.declared.actor.ActorId.TheVariants.{Worker, Tasker}
 use Rattle.sw_step.specs.Actors.{is}
-use Rattle.sw_record.specs.Words.{Event, Connect, Packet, Closed, Finish, Task, Shutdown, Done, Counter, Log}
+use Rattle.sw_record.specs.Words.{Connect, Packet, Closed, Finish, Task, Shutdown, Done, Log}
 use Rattle.sw_record.specs.Terms.{Terms}
 use Rattle.sw_record.specs.Answers.{answers_of}
-use Rattle.sw_record.specs.Causes.{IsAsked, granted, refused}
+use Rattle.sw_record.specs.Causes.{granted, refused}
 use Rattle.sw_record.specs.Counts.{count_in}
 use Rattle.sw_record.specs.Logs.{told_of, events_of}
 use Rattle.sw_record.specs.Places.{spent_in as spent_of}
@@ -19,16 +19,15 @@ use Rattle.sw_past.specs.Past.{Mail, bare, of}
 use Rattle.sw_past.specs.Views.{heard_in, task_id, no_more, over_in}
 use Rattle.sw_past.specs.Routes.{IsHand, IsRouted, MayPush}
 use Rattle.sw_join.proofs.Routes.{is_same}
-use Rattle.sw_world_ports.specs.Calls.{Did}
-use Rattle.sw_world_ports.specs.Made.{live_in, other_in, had_in, found_in, spent_in, stop_in, sum_in}
+use Rattle.sw_world_ports.specs.Made.{other_in, had_in, found_in, spent_in, sum_in}
 use Rattle.sw_world_laws.specs.Turns.{Diary}
 use Rattle.sw_world_laws.specs.Shows.{HandShows, Shows}
 use Rattle.sw_world_laws.specs.Done.{DoneShows}
 use Rattle.sw_world_laws.specs.Account.{untold}
 use Rattle.sw_world_laws.proofs.Locals.{no_hand_door, no_hand_reactor}
-use Rattle.sw_hand_laws.specs.Hand.{Stage, Stopped, Hand}
+use Rattle.sw_hand_laws.specs.Hand.{Stage, Hand}
 use Rattle.sw_hand_laws.specs.Shows.{Showing, Found}
-use Rattle.sw_hand_laws.specs.Kept.{Kept, Shown, Finished}
+use Rattle.sw_hand_laws.specs.Kept.{Shown, Finished}
 use Rattle.sw_hand_laws.proofs.Stops.{stop_asked}
 use Rattle.sw_world_hands.specs.Hands.{HadNoRoom, CallsShow}
 

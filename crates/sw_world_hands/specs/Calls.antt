@@ -1,7 +1,7 @@
 -- The calls that a turn of a hand's table makes on what actors share, with their answers, in order.
 use Rattle.std.specs.Prelude.{ℕ, ◌%◌, ◌^◌, ◌-◌, ◌==◌, Bool, true, false, if◌then◌else◌, List, [], ◌∷◌, Option, Result, Ok, Err}
 use Rattle.sw_step.specs.declared.actor.ActorId.{ActorId}
-use Rattle.sw_step.specs.declared.actor.ActorId.TheVariants.{Door, Reactor, Worker, Tasker}
+use Rattle.sw_step.specs.declared.actor.ActorId.TheVariants.{Worker}
 use Rattle.sw_column.specs.declared.column.Column.{Column}
 use Rattle.sw_port_book.specs.declared.answers.Look.{Look}
 use Rattle.sw_port_book.specs.declared.answers.BindFault.{BindFault}

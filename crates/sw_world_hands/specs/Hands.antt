@@ -3,7 +3,7 @@ use Rattle.std.specs.Prelude.{◌≡◌, ℕ, ◌+◌, ◌<◌, ◌≤◌, Bool,
 use Rattle.sw_lists.specs.Lists.{collect, Has}
 use Rattle.sw_step.specs.declared.actor.ActorId.{ActorId}
 use Rattle.sw_step.specs.declared.actor.ActorId.TheVariants.{Door, Reactor, Worker, Tasker}
-use Rattle.sw_record.specs.Words.{Act, TaskAct, Stats, Answer, Count, Counter, Log}
+use Rattle.sw_record.specs.Words.{Act, Stats, Answer, Count, Counter, Log}
 use Rattle.sw_record.specs.Terms.{Terms}
 use Rattle.sw_record.specs.Answers.{answers_of}
 use Rattle.sw_record.specs.Counts.{tally, counted}
