@@ -1,33 +1,25 @@
 -- What the code chooses is what the table chooses.
-use Rattle.std.proofs.Common.{◌≡◌, ◌⊎◌, ℕ, ◌+◌, ◌-◌, ◌*◌, ◌/◌, ◌<◌, ◌≤◌, ◌%◌, ◌^◌, ◌==◌, Bool, true, false, nat_lt, if◌then◌else◌, List, [], ◌∷◌, ◌++◌, length, map, slice_get, slice_set, remove, Option, Some, None, IfSome, refl, ap, ◌∙◌, sym, subst, append_assoc, append-nil, inl, inr, arith, zero, suc, mod-lt, mod-eq_of_lt}
+use Rattle.std.proofs.Common.{◌≡◌, ℕ, ◌+◌, ◌-◌, ◌*◌, ◌/◌, ◌<◌, ◌≤◌, ◌%◌, ◌^◌, ◌==◌, Bool, true, false, nat_lt, if◌then◌else◌, List, [], ◌∷◌, ◌++◌, length, map, refl, ap, ◌∙◌, sym, subst, append_assoc, append-nil, arith, suc, mod-lt, mod-eq_of_lt}
 use Rattle.std.proofs.Math.Nat.{mod-mod, mod_self, add-mul-mod_self_right}
 use Rattle.std.proofs.lemmas.Nat.{div-add-mod'}
 use Rattle.std.proofs.lemmas.Bool.Decides.{nat_tests}
-use Rattle.std.proofs.lemmas.List.{map-append}
-use Rattle.std.specs.Bool.{MatchBool}
-use Rattle.sw_data.specs.declared.ended.Cause.{Cause}
 use Rattle.sw_data.specs.declared.messages.Ask.TheVariants as ask
-use Rattle.sw_data.specs.declared.messages.Msg.{Msg}
 use Rattle.sw_data.specs.declared.messages.Msg.TheVariants as msgs
 use Rattle.sw_data.specs.declared.messages.Target.TheVariants as targets
-use Rattle.sw_data.specs.Targets.{round_target}
-use Rattle.sw_lists.specs.Lists.{collect, Each}
-use Rattle.sw_lists.proofs.Lists.{eq_is, length_append}
+use Rattle.sw_lists.proofs.Lists.{length_append}
 use Rattle.sw_conn.specs.declared.conn.Conn.{Conn}
 use Rattle.sw_conn.specs.Conn as conn
-use Rattle.sw_record.specs.Words.{Event, Connect, Packet, Closed, Finish, Task}
 use Rattle.sw_record.specs.Terms.{Terms}
-use Rattle.sw_past.specs.Messages.{Message, EventMsg, NoMore}
+use Rattle.sw_past.specs.Messages.{NoMore}
 use Rattle.sw_reactor_table.specs.Conn.{Conn as Row}
 use Rattle.sw_reactor_table.specs.Conn as table
-use Rattle.sw_reactor_table.specs.Reactor.{Reactor as Table, Ask, Take, Push, Nothing, Rest, Finished, all, each_conn, turned, ends_by}
-use Rattle.sw_conn_fits.specs.Shown.{settings, shown, IsCut}
+use Rattle.sw_reactor_table.specs.Reactor.{Reactor as Table, Ask, Take, Push, Rest, Finished, all, each_conn, turned, ends_by}
+use Rattle.sw_conn_fits.specs.Shown.{settings}
 use Rattle.sw_port_board.specs.declared.board.BoardStep.{BoardStep}
 use Rattle.sw_port_board.specs.declared.board.BoardStep.TheVariants as board
 use Rattle.sw_reactor.specs.declared.reactor.Asked.{Asked}
 use Rattle.sw_reactor.specs.declared.reactor.Asked.TheVariants as asks
 use Rattle.sw_reactor.specs.declared.reactor.Reactor.{Reactor}
-use Rattle.sw_reactor.specs.Line.{Lined}
 use Rattle.sw_reactor.specs.Turn.{Asks, Takes, behind_at, ends_ask, ends_asked}
 use Rattle.sw_reactor.specs.Leave.{at_left}
 use Rattle.sw_reactor_fits.specs.Told.{Telling}
@@ -49,10 +41,10 @@ takes_is {L} {K} goes view t r q s o u a h (stop, (x, y, z)) = (stop, (x, pick s
         (let m : Reactor L K = record r { line = record r.line { conns = map conn.stops r.line.conns } } in
         let k : Same view t m (each_conn table.stops s) = each_same view t r m s table.stops h refl (rows_map view t conn.stops table.stops (λ c d g. row_stops view t c d g) r.line.conns (all s) h.rows) in
         subst (λ (w : Reactor L K). IsTurn view t w a (record (each_conn table.stops s) { last = Take })) (sym e)
-          (record { fits = record { same = record { terms = k.terms; framing = k.framing; rows = k.rows; at = k.at; tight = k.tight; empty = k.empty; still = k.still; ends = k.ends; given = k.given; turn = k.turn }; was = refl }; asks = y }))
+        (record { fits = record { same = record { terms = k.terms; framing = k.framing; rows = k.rows; at = k.at; tight = k.tight; empty = k.empty; still = k.still; ends = k.ends; given = k.given; turn = k.turn }; was = refl }; asks = y }))
     pick false e =
         subst (λ (w : Reactor L K). IsTurn view t w a (record s { last = Take })) (sym e)
-          (record { fits = record { same = record { terms = h.terms; framing = h.framing; rows = h.rows; at = h.at; tight = h.tight; empty = h.empty; still = h.still; ends = h.ends; given = h.given; turn = h.turn }; was = refl }; asks = y })
+        (record { fits = record { same = record { terms = h.terms; framing = h.framing; rows = h.rows; at = h.at; tight = h.tight; empty = h.empty; still = h.still; ends = h.ends; given = h.given; turn = h.turn }; was = refl }; asks = y })
 
 -- without a connection
 capped_some : (n : ℕ) → nat_lt 0 (capped n) ≡ nat_lt 0 n
@@ -96,7 +88,7 @@ ends_is {L} {K} view t r q s a b h said y = pick (nat_lt 0 s.ends) refl (nat_lt 
     turn : (x : Ask) (k : Asked) (c : Asks L K) → ends_asked r ≡ k → ends_ask r ≡ c → WasAsked t s.given x k → AsksSame x c → IsTurn view t q a (record s { last = x })
     turn x k c e f was tells =
         subst (λ (w : Reactor L K). IsTurn view t w a (record s { last = x })) (sym (y ∙ ap (λ (z : Asked). let m : Reactor L K = record r { asked = z } in m) e))
-          (record { fits = record { same = same x k; was = was }; asks = subst (AsksSame x) (sym (said ∙ f)) tells })
+        (record { fits = record { same = same x k; was = was }; asks = subst (AsksSame x) (sym (said ∙ f)) tells })
 
     lt : (m n : ℕ) → nat_lt m n ≡ true → m < n
     lt m n e = grind (arith, nat_tests)
@@ -135,21 +127,31 @@ pub record Here {L K : Type 0} (t : Terms) (q : Reactor L K) (s : Table) (before
 pub placed : {L K : Type 0} (view : Telling L K) (t : Terms) (q : Reactor L K) (s : Table) (before : List (Conn L K)) (one : Conn L K) (behind : List (Conn L K)) (x : Row) (es : List Row) (last : Ask) (still n : ℕ) → Here t q s before one behind still n → AreRows view t before s.done → IsRow view t one x → AreRows view t behind es → Same view t q (record (turned (s.done ++ x ∷ []) es (record s { round = n })) { last = last; still = still })
 placed {L} {K} view t q s before one [] x [] last still n h pre row post =
     record {
-      terms = h.terms; framing = h.framing;
+      terms = h.terms;
+      framing = h.framing;
       rows = subst (λ (zs : List (Conn L K)). AreRows view t zs (s.done ++ x ∷ [])) (sym h.conns) (rows_append view t before (one ∷ []) s.done (x ∷ []) pre (row, tt));
       at = h.at ∙ behind_last before one;
       tight = λ z. refl;
-      empty = h.empty; still = h.still_is; ends = h.ends; given = h.given; turn = h.turn;
+      empty = h.empty;
+      still = h.still_is;
+      ends = h.ends;
+      given = h.given;
+      turn = h.turn;
     }
 placed view t q s before one (c ∷ cs) x [] last still n h pre row post = absurd post
 placed view t q s before one [] x (e ∷ es) last still n h pre row post = absurd post
 placed {L} {K} view t q s before one (c ∷ cs) x (e ∷ es) last still n h pre row post =
     record {
-      terms = h.terms; framing = h.framing;
+      terms = h.terms;
+      framing = h.framing;
       rows = subst (AreRows view t q.line.conns) (sym (append_assoc s.done (x ∷ []) (e ∷ es))) (subst (λ (zs : List (Conn L K)). AreRows view t zs (s.done ++ x ∷ e ∷ es)) (sym h.conns) (rows_append view t before (one ∷ c ∷ cs) s.done (x ∷ e ∷ es) pre (row, post)));
       at = h.at ∙ behind_more before one c cs ∙ ap (λ (m : ℕ). m + 1) (rows_length view t before s.done pre) ∙ sym (length_append s.done (x ∷ []));
       tight = λ z. absurd (cc);
-      empty = h.empty; still = h.still_is; ends = h.ends; given = h.given; turn = h.turn;
+      empty = h.empty;
+      still = h.still_is;
+      ends = h.ends;
+      given = h.given;
+      turn = h.turn;
     }
 
 -- one that left

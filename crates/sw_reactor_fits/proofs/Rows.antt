@@ -1,13 +1,12 @@
 -- Lists of connections and their rows.
-use Rattle.std.proofs.Common.{◌≡◌, ◌⊎◌, ℕ, ◌+◌, ◌<◌, ◌≤◌, ◌==◌, Bool, true, false, if◌then◌else◌, List, [], ◌∷◌, ◌++◌, length, map, take, drop, slice_get, slice_set, remove, Option, Some, None, refl, ap, ◌∙◌, sym, subst, inl, inr, arith, zero, suc}
+use Rattle.std.proofs.Common.{◌≡◌, ℕ, ◌==◌, Bool, true, false, if◌then◌else◌, List, [], ◌∷◌, ◌++◌, length, map, slice_get, slice_set, remove, Option, Some, None, refl, ap, ◌∙◌, sym, subst, suc}
 use Rattle.sw_lists.specs.Lists.{collect, Each}
 use Rattle.sw_lists.specs.Numbers.{Distinct}
-use Rattle.sw_lists.proofs.Lists.{eq_is, eq_same, eq_other, bool_cases}
+use Rattle.sw_lists.proofs.Lists.{eq_is, eq_same, eq_other}
 use Rattle.sw_conn.specs.declared.conn.Conn.{Conn}
 use Rattle.sw_record.specs.Terms.{Terms}
 use Rattle.sw_reactor_table.specs.Conn.{Conn as Row}
-use Rattle.sw_conn_fits.specs.Shown.{shown, IsCut}
-use Rattle.sw_reactor.specs.Line.{Lined, next_place, place_of, At, AtLine, AtPlace, AtSession}
+use Rattle.sw_reactor.specs.Line.{Lined, next_place, place_of, At, AtPlace, AtSession}
 use Rattle.sw_reactor_fits.specs.Told.{Telling}
 use Rattle.sw_reactor_fits.specs.Fits.{IsRow, AreRows}
 use Rattle.sw_reactor_table.specs.Quiet.{session_in}
@@ -106,12 +105,12 @@ rows_session {L} {K} view t s P B g k (c ∷ cs) es (d ∷ ds) z bounds h m = pi
         let test : (d.session == s) ≡ true = eq_same d.session s here in
         let rest : map (change g s) ds ≡ ds = unchanged g s ds (others s ds (subst (λ (n : ℕ). Each (λ (m : ℕ). ¬ (n ≡ m)) (collect session_in ds)) here z.0)) in
         subst (λ (zs : List (Conn L K)). AreRows view t zs (map (change g s) (d ∷ ds))) (sym q)
-          ((subst (λ (b : Bool). IsRow view t y (if b then g d else d)) (sym test) row), subst (AreRows view t cs) (sym rest) h.1))
+        ((subst (λ (b : Bool). IsRow view t y (if b then g d else d)) (sym test) row), subst (AreRows view t cs) (sym rest) h.1))
     pick false e x rec =
         (let r = suc_place c cs es (place_of s cs) P x in
         let test : (d.session == s) ≡ false = eq_other d.session s (λ p. absurd (let u : true ≡ false = sym (eq_same c.session s (sym (row_same view t c d h.0) ∙ p)) ∙ e in cc)) in
         subst (λ (zs : List (Conn L K)). AreRows view t zs (map (change g s) (d ∷ ds))) (sym r.1.0)
-          (subst (λ (b : Bool). IsRow view t c (if b then g d else d)) (sym test) h.0, rec r.0 r.1.1))
+        (subst (λ (b : Bool). IsRow view t c (if b then g d else d)) (sym test) h.0, rec r.0 r.1.1))
 
 -- of a line
 pub line_session : {L K : Type 0} (l : Lined L K) (s : ℕ) (P : Conn L K → Conn L K → Type 0) (m : Lined L K) → AtSession l s P m → AtThis l.conns (place_of s l.conns) P m.conns

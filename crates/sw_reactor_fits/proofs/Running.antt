@@ -1,5 +1,5 @@
 -- A turn of the code behind a pipe call of a run: what the table's own law gives stands then.
-use Rattle.std.proofs.Common.{◌≡◌, ℕ, ◌<◌, ◌^◌, Bool, length}
+use Rattle.std.proofs.Common.{ℕ, ◌<◌, ◌^◌, Bool, length}
 use Rattle.sw_data.specs.declared.messages.Got.{Got}
 use Rattle.sw_data.specs.declared.messages.Msg.{Msg}
 use Rattle.sw_frame.specs.Cut.{IsFit}
@@ -33,6 +33,6 @@ back_called s took pushed _ _ _ (NoCall e) = tt
 pub turn_of_run : {L K B C E : Type 0} (view : Telling L K) (p : Ports L K B C E) (t : Terms) (word : ℕ → ℕ) → DoTell view p → Sizes t → IsFit t.framing → (n : ℕ) → n < t.reactor_num → (took pushed : Mail) (s : Table) → Runs t word took pushed s → (r q : Reactor L K) (got : Got (Msg L K)) (a : Asks L K) (b0 b1 : B) (c0 c1 : C) (f0 f1 : E) → AreSound t p c0 f0 → Fits view t r s → BringsNew view got → (later more : Mail) → Called s took pushed later more (got_of p.number got) → IsFair t n later → ((starved : Bool) → length (all (settled t starved (got_of p.number got) s)) < 2 ^ 64) → Turns p r got b0 c0 f0 a q b1 c1 f1 → IsTheTables view t p s (got_of p.number got) b0 c0 f0 q a b1 c1 f1
 turn_of_run view p t word tell sizes fit n small took pushed s run r q got a b0 b1 c0 c1 f0 f1 sound h new later more call fair few z =
     turns_is view p t word r q got a s b0 b1 c0 c1 f0 f1 tell sound new sizes h
-      (runs_in_bounds t (AimOf t) (EndOf t) (mode_laws t) word sizes.workers (fit_grows t fit) n small took pushed s run (call_fair t n s took pushed later more (got_of p.number got) call fair))
-      (back_called s took pushed later more (got_of p.number got) call)
-      (λ starved. run_bounds t word sizes.workers fit n small took pushed s run later more (got_of p.number got) call fair starved (few starved)) z
+    (runs_in_bounds t (AimOf t) (EndOf t) (mode_laws t) word sizes.workers (fit_grows t fit) n small took pushed s run (call_fair t n s took pushed later more (got_of p.number got) call fair))
+    (back_called s took pushed later more (got_of p.number got) call)
+    (λ starved. run_bounds t word sizes.workers fit n small took pushed s run later more (got_of p.number got) call fair starved (few starved)) z

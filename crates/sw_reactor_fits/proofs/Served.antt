@@ -1,6 +1,5 @@
 -- A serve of the code is the table's serve.
-use Rattle.std.proofs.Common.{◌≡◌, ◌⊎◌, ℕ, ◌+◌, ◌-◌, ◌<◌, ◌≤◌, ◌%◌, ◌^◌, ◌==◌, Bool, true, false, nat_lt, if◌then◌else◌, List, [], ◌∷◌, ◌++◌, length, slice_get, Option, Some, None, IfSome, refl, ap, ◌∙◌, sym, subst, inl, inr, arith, zero, suc, mod-lt}
-use Rattle.std.proofs.lemmas.Bool.Decides.{nat_tests}
+use Rattle.std.proofs.Common.{◌≡◌, ℕ, ◌+◌, ◌<◌, ◌%◌, ◌^◌, ◌==◌, Bool, true, false, if◌then◌else◌, List, [], ◌∷◌, ◌++◌, length, slice_get, Option, Some, None, IfSome, refl, ap, ◌∙◌, sym, subst, inl, inr, arith, suc, mod-lt}
 use Rattle.std.proofs.Math.Nat.{mod-mod}
 use Rattle.sw_port_board.specs.declared.crew.Sizes.{Sizes as Crews}
 use Rattle.sw_port_board.specs.declared.board.BoardStep.TheVariants as board
@@ -17,12 +16,10 @@ use Rattle.sw_port_board.specs.declared.board.BoardStep.{BoardStep}
 use Rattle.sw_port_board.specs.declared.crew.Crew.TheVariants.{Workers}
 use Rattle.sw_port_board.specs.Board.{members, FindsIdle}
 use Rattle.sw_port_book.specs.declared.answers.Look.{Look}
-use Rattle.sw_port_book.specs.declared.word.Word.{Word}
 use Rattle.sw_port_book.specs.Answers.{Looks as LooksBy}
 use Rattle.sw_port_book.specs.declared.answers.Look.TheVariants as looking
-use Rattle.sw_lists.proofs.Lists.{eq_is, eq_other, length_append}
+use Rattle.sw_lists.proofs.Lists.{eq_other, length_append}
 use Rattle.sw_conn.specs.declared.conn.Conn.{Conn}
-use Rattle.sw_conn.specs.declared.conn.Kind.{Kind}
 use Rattle.sw_conn.specs.declared.terms.Terms.{Terms as Settings}
 use Rattle.sw_conn.specs.declared.serve.Step.{Step}
 use Rattle.sw_conn.specs.declared.serve.Step.TheVariants as steps
@@ -49,13 +46,13 @@ use Rattle.sw_reactor.specs.Aims as aims
 use Rattle.sw_reactor.specs.Leave as leave
 use Rattle.sw_reactor.specs.Serving.{Ports, Aims, Tells, Steps, ServesNext}
 use Rattle.sw_reactor.specs.Serving as serving
-use Rattle.sw_reactor_fits.specs.Fits.{IsRow, AreRows, Same, Fits, Sizes, Bounds}
+use Rattle.sw_reactor_fits.specs.Fits.{IsRow, AreRows, Same, Sizes, Bounds}
 use Rattle.sw_world_ports.specs.Calls.{Seen, Did, Looks, Idles, Frees, Adds}
 use Rattle.sw_record.specs.Words.{EndedCount}
-use Rattle.sw_reactor_fits.specs.Told.{Telling, IsCauseTold, TellsOf, IsEndOf, DoTell}
-use Rattle.sw_world_reactor.specs.Calls.{uid_seen, NoCalls, AimCalls, PushCalls, DoesCalls, ServeCalls}
+use Rattle.sw_reactor_fits.specs.Told.{Telling, IsCauseTold, TellsOf, DoTell}
+use Rattle.sw_world_reactor.specs.Calls.{uid_seen, AimCalls, DoesCalls, ServeCalls}
 use Rattle.sw_reactor_fits.specs.Ports.{seen_of, DidsGo, EndsGo, AreSound}
-use Rattle.sw_reactor_fits.proofs.Telling.{Keyed, own_then, flush_tells, flush_keyed, Chose, chose, chose_tells, again_held, tell_held, tidied_held, read_tells}
+use Rattle.sw_reactor_fits.proofs.Telling.{own_then, flush_tells, flush_keyed, Chose, chose, chose_tells, again_held, tell_held, tidied_held, read_tells}
 use Rattle.sw_reactor_fits.proofs.Rows.{rows_length, IsSplit, rows_split, get_behind, at_behind}
 use Rattle.sw_reactor_fits.proofs.Settled.{row_by, row_tells}
 use Rattle.sw_reactor_fits.proofs.Chosen.{IsTurn, next_mod}
@@ -70,7 +67,7 @@ Goes view t q a s d es ans = IsTurn view t q a (serves t ans (d ∷ es) s)
 by_served : {L K : Type 0} (view : Telling L K) (t : Terms) (q : Reactor L K) (a : code.Asks L K) (s : Table) (d : Row) (es : List Row) (ans : Answers) (moved : Bool) (v : Served) → serve t ans s.round d ≡ v → table.writes ans.write d ≡ moved → IsTurn view t q a (served_by t ans moved es v.conn v.does (record s { round = counted v.cuts s.round })) → Goes view t q a s d es ans
 by_served view t q a s d es ans moved v e f h =
     subst (λ (b : Bool). IsTurn view t q a (served_by t ans b es (serve t ans s.round d).conn (serve t ans s.round d).does (record s { round = counted (serve t ans s.round d).cuts s.round }))) (sym f)
-      (subst (λ (x : Served). IsTurn view t q a (served_by t ans moved es x.conn x.does (record s { round = counted x.cuts s.round }))) (sym e) h)
+    (subst (λ (x : Served). IsTurn view t q a (served_by t ans moved es x.conn x.does (record s { round = counted x.cuts s.round }))) (sym e) h)
 
 -- what the links that ended are then
 over_by : (t : Terms) (s : Table) (d : Row) (es : List Row) (ans : Answers) (moved : Bool) (v : Served) → serve t ans s.round d ≡ v → table.writes ans.write d ≡ moved → (serves t ans (d ∷ es) s).over ≡ (served_by t ans moved es v.conn v.does (record s { round = counted v.cuts s.round })).over
@@ -154,18 +151,25 @@ aimed_is {L} {K} view p t s r m before one behind x n w b d o u crew h row z = p
     pick : (k5 : Bool) → keeps t.mode ≡ k5 → (f5 : Bool) → (t.mode == 5) ≡ f5 → MatchBool k5 (IfSome (slice_get r.line.conns r.at) (λ c. w ≡ conn.home r.terms c) × (m ≡ r) × (d ≡ b) × (u ≡ o)) (MatchBool f5 (AimsSide p.looks r b w m d × (u ≡ o)) (AimsIdle p.goes p.sizes r o w u × (m ≡ r) × (d ≡ b))) → IsAimed view p t s before behind x n w m b d o u
     pick true e f5 f y =
         record {
-          look = 0; idle = None; one = one; now = same y.1;
+          look = 0;
+          idle = None;
+          one = one;
+          now = same y.1;
           row = λ a g. unlooked (keeps_five t.mode e) a;
           place = λ a g i. ap (table.place t a n) (not_looked t a x (keeps_five t.mode e) ∙ row.0) ∙ shown_home t a n x.pieces x.written x.taken one e ∙ sym (some_here (λ c. w ≡ conn.home (settings t) c) (subst (λ (k : Settings). IfSome (slice_get r.line.conns r.at) (λ (c : Conn L K). w ≡ conn.home k c)) h.terms y.0));
           below = λ j g. absurd (cc);
-          dids = []; calls = λ a g i. home_calls t a n x.session e g; went = (y.2, y.3);
+          dids = [];
+          calls = λ a g i. home_calls t a n x.session e g;
+          went = (y.2, y.3);
         }
     pick false e true f ((look, (look_is, lined, m_is, side)), u_is) =
         (let seen = line_at r.line m.line r.at (λ c1 c2. c2 ≡ conn.sees (uid_of look) c1) before one behind h.conns h.at lined in
         let now2 : Now t (record r { line = m.line }) s before seen.0 behind n = record { terms = h.terms; framing = h.framing; conns = seen.1.1; at = h.at; empty = h.empty; still = h.still; ends = h.ends; given = h.given; turn = h.turn } in
         let seen_row : (a : Answers) → a.look ≡ uid_of look → table.looked t a x ≡ shown x.pieces x.written x.taken seen.0 = λ a g. ap (λ (k : Bool). if k then table.sees a.look x else x) f ∙ ap (λ (k : ℕ). table.sees k x) g ∙ ap (table.sees (uid_of look)) row.0 ∙ sym (shown_sees x.pieces x.written x.taken (uid_of look) one) ∙ ap (shown {L = L} {K = K} x.pieces x.written x.taken) (sym seen.1.0) in
         record {
-          look = uid_of look; idle = None; one = seen.0;
+          look = uid_of look;
+          idle = None;
+          one = seen.0;
           now = subst (λ (y : Reactor L K). Now t y s before seen.0 behind n) (sym m_is) now2;
           row = λ a g. row_by view t x.pieces x.written x.taken seen.0 (table.looked t a x) (seen_row a g) (subst (IsCut {L = L} {K = K} t x.pieces x.taken) (sym seen.1.0) (cut_sees (one.uid == 0)))
               (subst (λ (y : Conn L K). TellsOf view y.link x.pieces x.written y.cause) (sym seen.1.0) (told_sees (one.uid == 0))) (subst (λ (y : Conn L K). view.number y.ticket ≡ y.session) (sym seen.1.0) (own_sees (one.uid == 0)));
@@ -195,7 +199,10 @@ aimed_is {L} {K} view p t s r m before one behind x n w b d o u crew h row z = p
         idles : (i3 : Bool) → i3 ≡ (t.mode == 3) → MatchBool i3 ((idle : Option ℕ) × (FindsIdle p.goes (p.sizes o) Workers (round_target r.turn r.terms.worker_num) o idle u × (w ≡ aims.idle_or idle (round_target r.turn r.terms.worker_num)))) ((w ≡ round_target r.turn r.terms.worker_num) × (u ≡ o)) → IsAimed view p t s before behind x n w m b d o u
         idles true g (found, (finds, w_is)) =
             record {
-              look = 0; idle = found; one = one; now = same m_is;
+              look = 0;
+              idle = found;
+              one = one;
+              now = same m_is;
               row = λ a z1. unlooked f a;
               place = λ a z1 i. side_place t a n (table.looked t a x) e f ∙ ap (λ (k : Bool). if k then table.idle_or a.idle (n % t.worker_num) else n % t.worker_num) (sym g) ∙ ap (λ (k : Option ℕ). table.idle_or k (n % t.worker_num)) i ∙ ap (table.idle_or found) (sym round) ∙ or_same found (round_target r.turn r.terms.worker_num) ∙ sym w_is;
               below = λ j z1. idle_below p.goes (p.sizes o) t.worker_num (round_target r.turn r.terms.worker_num) o u j crew (subst (λ (k : Option ℕ). FindsIdle p.goes (p.sizes o) Workers (round_target r.turn r.terms.worker_num) o k u) z1 finds);
@@ -209,11 +216,16 @@ aimed_is {L} {K} view p t s r m before one behind x n w b d o u crew h row z = p
             or_same (Some j) k = refl
         idles false g (w_is, u_is) =
             record {
-              look = 0; idle = None; one = one; now = same m_is;
+              look = 0;
+              idle = None;
+              one = one;
+              now = same m_is;
               row = λ a z1. unlooked f a;
               place = λ a z1 i. side_place t a n (table.looked t a x) e f ∙ ap (λ (k : Bool). if k then table.idle_or a.idle (n % t.worker_num) else n % t.worker_num) (sym g) ∙ sym round ∙ sym w_is;
               below = λ j z1. absurd (cc);
-              dids = []; calls = λ a z1 i. round_calls t a n x.session e f (sym g) z1; went = (d_is, u_is);
+              dids = [];
+              calls = λ a z1 i. round_calls t a n x.session e f (sym g) z1;
+              went = (d_is, u_is);
             }
 
 -- a packet that is told takes a turn
@@ -274,7 +286,7 @@ ends_still view p t s d es ans moved v f0 f1 e f n g = inl (over_by t s d es ans
 calls_by : (t : Terms) (ans : Answers) (s : Table) (d : Row) (v : Served) (ds : List Did) (o : Option (ℕ × Event)) → serve t ans s.round d ≡ v → (table.tidied ans d).held ≡ o → DoesCalls t ans s.round d.session o v.does ds → ServeCalls t ans s.round d ds
 calls_by t ans s d v ds o e f h =
     subst (λ (x : Option (ℕ × Event)). DoesCalls t ans s.round d.session x (serve t ans s.round d).does ds) (sym f)
-      (subst (λ (x : Served). DoesCalls t ans s.round d.session o x.does ds) (sym e) h)
+    (subst (λ (x : Served). DoesCalls t ans s.round d.session o x.does ds) (sym e) h)
 
 -- an event again to its worker
 again_served : {L K B C E : Type 0} (view : Telling L K) (p : Ports L K B C E) (t : Terms) (word : ℕ → ℕ) (r q : Reactor L K) (a : code.Asks L K) (s : Table) (d : Row) (es : List Row) (before behind : List (Conn L K)) (m : Lined L K) (z : Conn L K) (x : Row) (wrote : Option LinkWrite) (starved : Bool) (w : ℕ) (e : Event) (h0 : ℕ × Event) (b0 b1 : B) (c0 c1 : C) (f0 f1 : E) → Place view t r s d es before behind → m.conns ≡ before ++ z ∷ behind → IsRow view t z x → ((ans : Answers) → ans.write ≡ write_of wrote → (table.tidied ans d).held ≡ Some h0) → ((ans : Answers) → ans.write ≡ write_of wrote → ans.cut_starved ≡ starved → serve t ans s.round d ≡ plain x (Pushes w e)) → ((ans : Answers) → ans.write ≡ write_of wrote → table.writes ans.write d ≡ some_write wrote) → code.Pushes w e (record r { line = m }) a q × (b1 ≡ b0) × (c1 ≡ c0) × (f1 ≡ f0) → IsServe view p t word q a s d es b0 c0 f0 b1 c1 f1
@@ -284,7 +296,7 @@ again_served view p t word r q a s d es before behind m z x wrote starved w e h0
     record {
       answers = ans;
       goes = by_served view t q a s d es ans (some_write wrote) (plain x (Pushes w e)) (is ans refl refl) (moved ans refl)
-        (push_turn view t (record r { line = m }) q s before z behind x es w e s.round a (line_now view t r s m before z behind h.same h.at f) h.pre row h.post (subst (λ (v : Served). IsOf v.conn.session e) (is ans refl refl) own) y.0);
+          (push_turn view t (record r { line = m }) q s before z behind x es w e s.round a (line_now view t r s m before z behind h.same h.at f) h.pre row h.post (subst (λ (v : Served). IsOf v.conn.session e) (is ans refl refl) own) y.0);
       idle = no_idle t wrote starved 0 ReadNotYet false (word d.session);
       dids = [];
       calls = calls_by t ans s d (plain x (Pushes w e)) [] (Some h0) (is ans refl refl) (held ans refl) (refl, refl);
@@ -306,7 +318,7 @@ told_served {L} {K} view p t word r q a s d es before behind m z x wrote starved
     record {
       answers = ans;
       goes = by_served view t q a s d es ans (some_write wrote) v veq (moved ans refl)
-        (subst (λ (k : ℕ). IsTurn view t q a (record (turned (s.done ++ table.looked t ans x ∷ []) es (record s { round = counted (is_packet_event e) s.round })) { last = Push k (EventMsg e); still = 0 })) (sym place)
+          (subst (λ (k : ℕ). IsTurn view t q a (record (turned (s.done ++ table.looked t ans x ∷ []) es (record s { round = counted (is_packet_event e) s.round })) { last = Push k (EventMsg e); still = 0 })) (sym place)
           (push_turn view t (serving.counted (conn.kind_of e) m2) q s before g.one behind (table.looked t ans x) es w e (counted (is_packet_event e) s.round) a (turned_now t m2 s before g.one behind s.round e h.sizes.workers g.now) h.pre (g.row ans refl) h.post own y));
       idle = idle;
       dids = g.dids;
@@ -322,7 +334,7 @@ moved_served view p t word r q a s d es before behind m z x wrote starved b0 b1 
     record {
       answers = ans;
       goes = by_served view t q a s d es ans (some_write wrote) (plain x Moves) (is ans refl refl) (moved ans refl)
-        (move_turn view t (record r { line = m }) q s before z behind x es s.round a (line_now view t r s m before z behind h.same h.at f) h.pre row h.post y.0 y.1);
+          (move_turn view t (record r { line = m }) q s before z behind x es s.round a (line_now view t r s m before z behind h.same h.at f) h.pre row h.post y.0 y.1);
       idle = no_idle t wrote starved 0 ReadNotYet false (word d.session);
       dids = [];
       calls = calls_by t ans s d (plain x Moves) [] (table.tidied ans d).held (is ans refl refl) refl (refl, refl);
@@ -344,7 +356,7 @@ stayed_served view p t word r q a s d es before behind m z x wrote starved b0 b1
     record {
       answers = ans;
       goes = by_served view t q a s d es ans (some_write wrote) (plain x Stays) (is ans refl refl) (moved ans refl)
-        (stay_turn view t (record r { line = m }) q s before z behind x es s.round a wrote (line_now view t r s m before z behind h.same h.at f) h.pre row h.post (few_here t s d x es h.bounds h.next) y.0);
+          (stay_turn view t (record r { line = m }) q s before z behind x es s.round a wrote (line_now view t r s m before z behind h.same h.at f) h.pre row h.post (few_here t s d x es h.bounds h.next) y.0);
       idle = no_idle t wrote starved 0 ReadNotYet false (word d.session);
       dids = [];
       calls = calls_by t ans s d (plain x Stays) [] (table.tidied ans d).held (is ans refl refl) refl (refl, refl);
@@ -365,7 +377,7 @@ left_served {L} {K} {B} {C} view p t word r q a s d es before behind m z ps ws n
     record {
       answers = ans;
       goes = by_served view t q a s d es ans (some_write wrote) v (is ans refl refl) (moved ans refl)
-        (left_turn view t (record r { line = m }) q s before z behind es (s.over ++ over_link t x uid e ∷ []) s.round a kept now h.pre h.post y1 y2);
+          (left_turn view t (record r { line = m }) q s before z behind es (s.over ++ over_link t x uid e ∷ []) s.round a kept now h.pre h.post y1 y2);
       idle = no_idle t wrote starved 0 ReadNotYet false uid;
       dids = Frees d.session uid ∷ Adds EndedCount ∷ [];
       calls = calls_by t ans s d v (Frees d.session uid ∷ Adds EndedCount ∷ []) (table.tidied ans d).held (is ans refl refl) refl (refl, refl);

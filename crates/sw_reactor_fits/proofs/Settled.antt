@@ -1,5 +1,5 @@
 -- What the code settles is what the table settles.
-use Rattle.std.proofs.Common.{◌≡◌, ◌⊎◌, ℕ, ◌+◌, ◌-◌, ◌<◌, ◌≤◌, ◌^◌, ◌==◌, Bool, true, false, nat_lt, if◌then◌else◌, List, [], ◌∷◌, ◌++◌, length, map, slice_set, Option, Some, None, refl, ap, ◌∙◌, sym, subst, append_assoc, inl, inr, arith, zero, suc}
+use Rattle.std.proofs.Common.{◌≡◌, ℕ, ◌+◌, ◌-◌, ◌<◌, ◌≤◌, ◌^◌, Bool, true, false, nat_lt, if◌then◌else◌, List, [], ◌∷◌, ◌++◌, length, map, Option, Some, None, refl, ap, ◌∙◌, sym, subst, append_assoc, inl, inr, arith, suc}
 use Rattle.std.proofs.lemmas.Bool.Decides.{nat_tests}
 use Rattle.std.proofs.lemmas.List.{map-append}
 use Rattle.sw_data.specs.declared.messages.Got.{Got}
@@ -8,10 +8,9 @@ use Rattle.sw_data.specs.declared.messages.Msg.{Msg}
 use Rattle.sw_data.specs.declared.messages.Msg.TheVariants as msgs
 use Rattle.sw_frame.specs.declared.framing.Framing.{Framing}
 use Rattle.sw_frame.specs.Cutting.{Cutting}
-use Rattle.sw_lists.specs.Lists.{collect, Each}
+use Rattle.sw_lists.specs.Lists.{Each}
 use Rattle.sw_lists.proofs.Lists.{each_all, each_more}
 use Rattle.sw_conn.specs.declared.conn.Conn.{Conn}
-use Rattle.sw_conn.specs.declared.conn.Kind.TheVariants as kinds
 use Rattle.sw_conn.specs.declared.terms.Terms.{Terms as Settings}
 use Rattle.sw_conn.specs.Causes.{is_hard, is_packet_event}
 use Rattle.sw_conn.specs.Conn as conn
@@ -23,15 +22,15 @@ use Rattle.sw_reactor_table.specs.Conn as table
 use Rattle.sw_reactor_table.specs.Reactor.{Reactor as Table, Ask, Take, Push, Nothing, Rest, Finished, all, each_conn, settled, settled_msg, settled_push, settled_full, pushed_by, full_by}
 use Rattle.sw_reactor_table.specs.Quiet.{IsOf}
 use Rattle.sw_conn_fits.specs.Shown.{settings, shown, IsCut}
-use Rattle.sw_conn_fits.proofs.Conn.{shown_sent, shown_closes, shown_resets, shown_answered, shown_holds, shown_fresh, shown_noted, shown_stops}
+use Rattle.sw_conn_fits.proofs.Conn.{shown_sent, shown_fresh, shown_noted}
 use Rattle.sw_reactor.specs.declared.reactor.Asked.{Asked}
 use Rattle.sw_reactor.specs.declared.reactor.Asked.TheVariants as asks
 use Rattle.sw_reactor.specs.declared.reactor.Reactor.{Reactor}
-use Rattle.sw_reactor.specs.Line.{Lined, place_of, At, AtSession}
-use Rattle.sw_reactor.specs.Reactor.{OnLine, Joins, SettlesMsg, SettlesPush, SettlesEvent, SettlesFull, Settles}
+use Rattle.sw_reactor.specs.Line.{Lined, place_of, AtSession}
+use Rattle.sw_reactor.specs.Reactor.{OnLine, SettlesMsg, SettlesPush, SettlesEvent, SettlesFull, Settles}
 use Rattle.sw_reactor_fits.specs.Told.{Telling, IsCauseTold, TellsOf, IsNew, BringsNew}
 use Rattle.sw_reactor_fits.specs.Fits.{IsRow, AreRows, capped, session_of_event, WasPush, WasAsked, Same, Fits, got_of, IsBack, Sizes}
-use Rattle.sw_reactor_fits.proofs.Rows.{rows_append, rows_map, change, AtThis, rows_session, line_session}
+use Rattle.sw_reactor_fits.proofs.Rows.{rows_append, change, AtThis, rows_session, line_session}
 use Rattle.sw_reactor_laws.specs.Bounds.{CanNote, InBounds}
 
 -- a row by what it shows
@@ -47,7 +46,7 @@ pub row_change : {L K : Type 0} (view : Telling L K) (t : Terms) (c e : Conn L K
 row_change {L} {K} view t c e d g h q f told link ticket session =
     (let k = row_tells view t c d h in
     row_by view t d.pieces d.written d.taken e (g d) (ap g h.0 ∙ q) (f h.1)
-      (ap view.pieces link ∙ k.0, ap view.written link ∙ k.1, told k.2) (ap view.number ticket ∙ h.2.1 ∙ sym session))
+    (ap view.pieces link ∙ k.0, ap view.written link ∙ k.1, told k.2) (ap view.number ticket ∙ h.2.1 ∙ sym session))
 
 soft_some : (e : Cause) (o : Option Cause) → conn.set_soft e o ≡ None → ⊥
 soft_some e None q = cc
@@ -140,8 +139,8 @@ row_noted {L} {K} view t x c e d few q h =
     let b : d.dispatched ≡ c.dispatched = ap (λ (y : Row). y.dispatched) h.0 in
     let k = noted_alone view t x c in
     subst (λ (y : Conn L K). IsRow view t y (table.noted t x d)) (sym q)
-      (row_change view t c (conn.noted (settings t) (conn.kind_of x) c) d (table.noted t x) h
-        (sym (shown_noted t d.pieces d.written d.taken x c (λ p. subst (λ (m : ℕ). m < 2 ^ 64 - 1) b (few.0 p)) (subst (λ (m : ℕ). m < 2 ^ 128 - 1) a few.1))) (cut x) k.told k.link k.ticket k.session))
+    (row_change view t c (conn.noted (settings t) (conn.kind_of x) c) d (table.noted t x) h
+    (sym (shown_noted t d.pieces d.written d.taken x c (λ p. subst (λ (m : ℕ). m < 2 ^ 64 - 1) b (few.0 p)) (subst (λ (m : ℕ). m < 2 ^ 128 - 1) a few.1))) (cut x) k.told k.link k.ticket k.session))
   where
     cut : (y : Event) → IsCut t d.pieces d.taken c → IsCut t d.pieces d.taken (conn.noted (settings t) (conn.kind_of y) c)
     cut (Connect s) f = f
@@ -237,9 +236,11 @@ up_capped n = pick (nat_lt n (2 ^ 64 - 1)) refl (nat_lt (n + 1) (2 ^ 64 - 1)) re
 took_settled : {L K : Type 0} (view : Telling L K) (t : Terms) (number : K → ℕ) (r q : Reactor L K) (s : Table) (m : Msg L K) → ((k : K) → view.number k ≡ number k) → IsNew view m → Same view t r s → InBounds s → SettlesMsg number r m q → (starved : Bool) × Same view t q (settled_msg t starved (message_of number m) s)
 took_settled {L} {K} view t number r q s (msgs.Fresh link ip ticket) own new h b ((c, (f, e)), g) =
     (let x = shown_fresh r.framing link ip ticket (number ticket) c f in
-    let row : IsRow view t c (table.fresh x.0 ip (number ticket)) = row_by view t [] [] 0 c (table.fresh x.0 ip (number ticket)) (sym x.1) (fits f) (tells f) (keyed f) in
-    (x.0, joins_same view t r q s (table.fresh x.0 ip (number ticket)) h g
-      (subst (λ (zs : List (Conn L K)). AreRows view t zs (all s ++ table.fresh x.0 ip (number ticket) ∷ [])) (sym (ap (λ (y : Lined L K). y.conns) e)) (rows_append view t r.line.conns (c ∷ []) (all s) (table.fresh x.0 ip (number ticket) ∷ []) h.rows (row, tt)))))
+    let row : IsRow view t c (table.fresh x.0 ip (number ticket)) = row_by view t [] [] 0 c (table.fresh x.0 ip (number ticket)) (sym x.1) (fits f) (tells f) (keyed f) in (
+      x.0,
+      joins_same view t r q s (table.fresh x.0 ip (number ticket)) h g
+          (subst (λ (zs : List (Conn L K)). AreRows view t zs (all s ++ table.fresh x.0 ip (number ticket) ∷ [])) (sym (ap (λ (y : Lined L K). y.conns) e)) (rows_append view t r.line.conns (c ∷ []) (all s) (table.fresh x.0 ip (number ticket) ∷ []) h.rows (row, tt))),
+    ))
   where
     fits : conn.IsFresh r.framing link ip ticket (number ticket) c → IsCut t [] 0 c
     fits (inl z) = subst (IsCut {L = L} {K = K} t [] 0) (sym z) (λ u. ap (λ (y : Framing). let d : Cutting = record { framing = y; pieces = []; given = 0 } in d) h.framing)
@@ -258,9 +259,11 @@ took_settled view t number r q s (msgs.Reset n) own new h b (m, e) = (false, fre
 took_settled view t number r q s (msgs.Bye n) own new h b (m, e) = (false, free_of view t r q s n (λ c d. d ≡ conn.answered c) Any answered_row (λ c y d u z p g. row_answered view t c y d p g) h b (any (all s)) (line_session r.line n (λ c d. d ≡ conn.answered c) q.line m) e)
 took_settled {L} {K} view t number r q s (msgs.Event x) own new h b m = (false, subst (λ (y : Reactor L K). Same view t y s) (sym m) h)
 took_settled {L} {K} view t number r q s (msgs.Over id) own new h b m = (false, subst (λ (y : Reactor L K). Same view t y s) (sym m) h)
-took_settled {L} {K} view t number r q s msgs.NoMore own new h b m =
-    (false, subst (λ (y : Reactor L K). Same view t y (record s { ends = s.ends + 1 })) (sym m)
-      (record { terms = h.terms; framing = h.framing; rows = h.rows; at = h.at; tight = h.tight; empty = h.empty; still = h.still; ends = ap conn.up h.ends ∙ up_capped s.ends; given = h.given; turn = h.turn }))
+took_settled {L} {K} view t number r q s msgs.NoMore own new h b m = (
+  false,
+  subst (λ (y : Reactor L K). Same view t y (record s { ends = s.ends + 1 })) (sym m)
+      (record { terms = h.terms; framing = h.framing; rows = h.rows; at = h.at; tight = h.tight; empty = h.empty; still = h.still; ends = ap conn.up h.ends ∙ up_capped s.ends; given = h.given; turn = h.turn }),
+)
 
 -- what was pushed is noted
 pushed_event : {L K : Type 0} (view : Telling L K) (t : Terms) (r q : Reactor L K) (s : Table) (x : Event) → Same view t r s → InBounds s → Each (CanNote (Push 0 (EventMsg x))) (all s) → IsOf (session_of_event x) x → OnLine r (λ l m. AtSession l (session_of_event x) (λ c d. d ≡ conn.noted r.terms (conn.kind_of x) c) m) q → Same view t q (each_conn (change (table.noted t x) (session_of_event x)) s)

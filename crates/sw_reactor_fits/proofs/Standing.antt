@@ -1,5 +1,5 @@
 -- What the table's own law gives of its states: the event of a serve is one of the connection that is served.
-use Rattle.std.proofs.Common.{◌≡◌, ℕ, ◌<◌, ◌^◌, Bool, List, ◌∷◌, ◌++◌, length, refl, subst}
+use Rattle.std.proofs.Common.{◌≡◌, ℕ, ◌<◌, ◌^◌, Bool, List, ◌∷◌, ◌++◌, length, subst}
 use Rattle.sw_data.specs.declared.messages.Got.{Got}
 use Rattle.sw_frame.specs.Cut.{IsFit}
 use Rattle.sw_lists.specs.Lists.{Each}
@@ -34,4 +34,4 @@ quiet_bounds t a w some grows n took pushed s q few = record { few = few; own = 
 pub run_bounds : (t : Terms) (word : ℕ → ℕ) → 0 < t.worker_num → IsFit t.framing → (n : ℕ) → n < t.reactor_num → (took pushed : Mail) (s : Table) → Runs t word took pushed s → (later more : Mail) (got : Got Message) → Called s took pushed later more got → IsFair t n later → (starved : Bool) → length (all (settled t starved got s)) < 2 ^ 64 → Bounds t (settled t starved got s)
 run_bounds t word some fit n small took pushed s run later more got call fair starved few =
     quiet_bounds t (AimOf t) (EndOf t) some (fit_grows t fit) n later more (settled t starved got s)
-      (call_quiet t (AimOf t) (EndOf t) n s took pushed later more got call fair (runs_quiet t (AimOf t) (EndOf t) (mode_laws t) word some (fit_grows t fit) n small took pushed s run (call_fair t n s took pushed later more got call fair)) starved) few
+    (call_quiet t (AimOf t) (EndOf t) n s took pushed later more got call fair (runs_quiet t (AimOf t) (EndOf t) (mode_laws t) word some (fit_grows t fit) n small took pushed s run (call_fair t n s took pushed later more got call fair)) starved) few

@@ -1,5 +1,5 @@
 -- A turn of the code is the table's turn.
-use Rattle.std.proofs.Common.{◌≡◌, ◌⊎◌, ℕ, ◌+◌, ◌<◌, ◌==◌, Bool, true, false, nat_lt, if◌then◌else◌, List, [], ◌∷◌, ◌++◌, length, Option, Some, None, refl, ap, ◌∙◌, sym, subst, append-nil, inl, inr, arith}
+use Rattle.std.proofs.Common.{◌≡◌, ℕ, ◌+◌, ◌<◌, ◌==◌, Bool, true, false, nat_lt, if◌then◌else◌, List, [], ◌∷◌, ◌++◌, length, None, refl, ap, ◌∙◌, sym, subst, inl, arith}
 use Rattle.std.proofs.lemmas.Bool.Decides.{nat_tests}
 use Rattle.std.specs.Bool.{MatchBool}
 use Rattle.sw_data.specs.declared.messages.Got.{Got}
@@ -20,7 +20,6 @@ use Rattle.sw_reactor_table.specs.Conn.{Conn as Row, Answers, stops}
 use Rattle.sw_reactor_table.specs.Reactor.{Reactor as Table, Ask, Take, Push, Nothing, Rest, Finished, all, each_conn, settled, serves, chosen, ends_by}
 use Rattle.sw_reactor_table.specs.Quiet.{IsIdle}
 use Rattle.sw_reactor.specs.declared.reactor.Asked.{Asked}
-use Rattle.sw_reactor.specs.declared.reactor.Asked.TheVariants as asks
 use Rattle.sw_reactor.specs.declared.reactor.Reactor.{Reactor}
 use Rattle.sw_reactor.specs.Turn.{Asks, Takes, ends_ask, ends_asked}
 use Rattle.sw_reactor.specs.Serving.{Ports, Serves, ServesNext, Chooses_by, Turns, CountsPacket, counts, counts_asked}
@@ -179,7 +178,11 @@ turns_is {L} {K} view p t word r q got a s b0 b1 c0 c1 f0 f1 tell sound new size
     let was : WasAsked t s.given s.last m.asked = subst (WasAsked t s.given s.last) (sym (asked_stays p.number r m got z)) h.was in
     let v : IsChoice view p t q a now s.last b0 c2 f0 b1 c1 f1 = chosen_is view p t word m q a now b0 b1 c2 c1 f0 f1 tell (sound_then t p (counts r got) c0 c2 f0 counted sound) sizes x.1 (later x.0) s.given s.last was y in
     record {
-      starved = x.0; answers = v.answers; fits = v.turn.fits; asks = v.turn.asks; idle = v.idle;
+      starved = x.0;
+      answers = v.answers;
+      fits = v.turn.fits;
+      asks = v.turn.asks;
+      idle = v.idle;
       dids = packets_counted (got_of p.number got) s.last ++ v.dids;
       calls = (v.dids, (refl, v.calls));
       went = dids_append p (packets_counted (got_of p.number got) s.last) v.dids b0 b0 b1 c0 c2 c1 (counts_go p t s.given s.last r h.was got b0 c0 c2 counted) v.went;

@@ -1,14 +1,10 @@
 -- What a serve comes to, in the code and in the table: an event is pushed, something moved, nothing did, or a connection left.
-use Rattle.std.proofs.Common.{◌≡◌, ◌⊎◌, ℕ, ◌+◌, ◌-◌, ◌<◌, ◌≤◌, ◌%◌, ◌^◌, ◌==◌, Bool, true, false, nat_lt, if◌then◌else◌, List, [], ◌∷◌, ◌++◌, length, slice_get, remove, Option, Some, None, refl, ap, ◌∙◌, sym, subst, append_assoc, append-nil, inl, inr, arith, zero, suc}
+use Rattle.std.proofs.Common.{◌≡◌, ℕ, ◌+◌, ◌-◌, ◌<◌, ◌%◌, ◌^◌, Bool, true, false, nat_lt, if◌then◌else◌, List, [], ◌∷◌, ◌++◌, length, remove, Option, Some, None, refl, ap, ◌∙◌, sym, subst, append-nil, arith}
 use Rattle.std.proofs.lemmas.Bool.Decides.{nat_tests}
 use Rattle.std.specs.Bool.{MatchBool}
-use Rattle.sw_data.specs.declared.ended.Cause.{Cause}
 use Rattle.sw_data.specs.declared.messages.Ask.TheVariants as ask
-use Rattle.sw_data.specs.declared.messages.Msg.TheVariants as msgs
-use Rattle.sw_data.specs.declared.messages.Target.TheVariants as targets
 use Rattle.sw_link.specs.declared.link.LinkWrite.{LinkWrite}
 use Rattle.sw_link.specs.declared.link.LinkWrite.TheVariants as writing
-use Rattle.sw_lists.proofs.Lists.{length_append}
 use Rattle.sw_conn.specs.declared.conn.Conn.{Conn}
 use Rattle.sw_conn.specs.Conn as conn
 use Rattle.sw_record.specs.Words.{Event, Connect, Packet, Closed, Finish, Task}
@@ -16,7 +12,6 @@ use Rattle.sw_record.specs.Terms.{Terms}
 use Rattle.sw_record.specs.declared.record.LinkRecord.{LinkRecord}
 use Rattle.sw_past.specs.Messages.{EventMsg}
 use Rattle.sw_reactor_table.specs.Conn.{Conn as Row}
-use Rattle.sw_reactor_table.specs.Conn as table
 use Rattle.sw_reactor_table.specs.Reactor.{Reactor as Table, Ask, Take, Push, Nothing, Rest, Finished, all, turned}
 use Rattle.sw_reactor_table.specs.Reactor as tables
 use Rattle.sw_reactor_table.specs.Quiet.{IsOf}
@@ -27,7 +22,7 @@ use Rattle.sw_reactor.specs.declared.reactor.Reactor.{Reactor}
 use Rattle.sw_reactor.specs.Turn.{Asks, behind_at, moved, stayed, rests, rest_by, wrote_some, Stays, session_in, session_at, Pushes}
 use Rattle.sw_reactor.specs.Leave.{at_left, left}
 use Rattle.sw_reactor_fits.specs.Told.{Telling}
-use Rattle.sw_reactor_fits.specs.Fits.{IsRow, AreRows, capped, session_of_event, WasAsked, AsksSame, Same, Fits, Bounds}
+use Rattle.sw_reactor_fits.specs.Fits.{IsRow, AreRows, capped, session_of_event, WasAsked, AsksSame, Same}
 use Rattle.sw_reactor_fits.proofs.Rows.{rows_length, rows_append, get_behind, remove_behind}
 use Rattle.sw_reactor_fits.proofs.Settled.{up_capped}
 use Rattle.sw_reactor_fits.proofs.Chosen.{IsTurn, Here, placed, left_last, left_more}
@@ -142,13 +137,13 @@ stay_turn {L} {K} view t x q s before one behind row es n a wrote h pre r post f
     pick false y =
         (let b : Bool = (if s.empty then (if nat_lt (s.still + 1) (length (s.done ++ row ∷ es)) then false else true) else false) in
         subst (IsTurn view t q a) (sym (stayed_is (s.done ++ row ∷ []) es (record s { round = n }) (length (s.done ++ row ∷ es))))
-          (record {
-            fits = record {
-              same = placed view t q s before one behind row es (tables.rest_by b) (s.still + 1) n (here_of t x q s before one behind n (s.still + 1) asks.Nothing (conn.up x.still) h y.1 up) pre r post;
-              was = was_rest t _ b q.asked (ap (λ (w : Reactor L K). w.asked) y.1);
-            };
-            asks = asks_rest b a (y.0 ∙ ap (λ (c : Bool). rest_by c) rest);
-          }))
+        (record {
+          fits = record {
+            same = placed view t q s before one behind row es (tables.rest_by b) (s.still + 1) n (here_of t x q s before one behind n (s.still + 1) asks.Nothing (conn.up x.still) h y.1 up) pre r post;
+            was = was_rest t _ b q.asked (ap (λ (w : Reactor L K). w.asked) y.1);
+          };
+          asks = asks_rest b a (y.0 ∙ ap (λ (c : Bool). rest_by c) rest);
+        }))
 
 -- one left
 pub left_turn : {L K : Type 0} (view : Telling L K) (t : Terms) (x q : Reactor L K) (s : Table) (before : List (Conn L K)) (one : Conn L K) (behind : List (Conn L K)) (es : List Row) (over : List LinkRecord) (n : ℕ) (a : Asks L K) (kept : Bool) → Now t x s before one behind n → AreRows view t before s.done → AreRows view t behind es → a ≡ ask.Nothing → q ≡ left kept x → IsTurn view t q a (record (turned s.done es (record s { round = n })) { over = over; last = Nothing; still = 0 })
@@ -169,17 +164,29 @@ left_turn {L} {K} view t x q s before one behind es over n a kept h pre post p z
     by : (cs : List (Conn L K)) (ds : List Row) → AreRows view t cs ds → q.line.conns ≡ before ++ cs → q.at ≡ at_left (length before) (length (before ++ cs)) → Same view t q (record (turned s.done ds (record s { round = n })) { over = over; last = Nothing; still = 0 })
     by [] [] g e f =
         record {
-          terms = terms; framing = ap (λ (y : Reactor L K). y.framing) z ∙ h.framing;
+          terms = terms;
+          framing = ap (λ (y : Reactor L K). y.framing) z ∙ h.framing;
           rows = subst (λ (zs : List (Conn L K)). AreRows view t zs s.done) (sym (e ∙ append-nil before)) pre;
-          at = f ∙ left_last before; tight = λ w. refl;
-          empty = ap (λ (y : Reactor L K). y.empty) z ∙ h.empty; still = ap (λ (y : Reactor L K). y.still) z; ends = ap (λ (y : Reactor L K). y.ends) z ∙ h.ends; given = ap (λ (y : Reactor L K). y.given) z ∙ h.given; turn = ap (λ (y : Reactor L K). y.turn) z ∙ h.turn;
+          at = f ∙ left_last before;
+          tight = λ w. refl;
+          empty = ap (λ (y : Reactor L K). y.empty) z ∙ h.empty;
+          still = ap (λ (y : Reactor L K). y.still) z;
+          ends = ap (λ (y : Reactor L K). y.ends) z ∙ h.ends;
+          given = ap (λ (y : Reactor L K). y.given) z ∙ h.given;
+          turn = ap (λ (y : Reactor L K). y.turn) z ∙ h.turn;
         }
     by [] (d ∷ ds) g e f = absurd g
     by (c ∷ cs) [] g e f = absurd g
     by (c ∷ cs) (d ∷ ds) g e f =
         record {
-          terms = terms; framing = ap (λ (y : Reactor L K). y.framing) z ∙ h.framing;
+          terms = terms;
+          framing = ap (λ (y : Reactor L K). y.framing) z ∙ h.framing;
           rows = subst (λ (zs : List (Conn L K)). AreRows view t zs (s.done ++ d ∷ ds)) (sym e) (rows_append view t before (c ∷ cs) s.done (d ∷ ds) pre g);
-          at = f ∙ left_more before c cs ∙ rows_length view t before s.done pre; tight = λ w. absurd (cc);
-          empty = ap (λ (y : Reactor L K). y.empty) z ∙ h.empty; still = ap (λ (y : Reactor L K). y.still) z; ends = ap (λ (y : Reactor L K). y.ends) z ∙ h.ends; given = ap (λ (y : Reactor L K). y.given) z ∙ h.given; turn = ap (λ (y : Reactor L K). y.turn) z ∙ h.turn;
+          at = f ∙ left_more before c cs ∙ rows_length view t before s.done pre;
+          tight = λ w. absurd (cc);
+          empty = ap (λ (y : Reactor L K). y.empty) z ∙ h.empty;
+          still = ap (λ (y : Reactor L K). y.still) z;
+          ends = ap (λ (y : Reactor L K). y.ends) z ∙ h.ends;
+          given = ap (λ (y : Reactor L K). y.given) z ∙ h.given;
+          turn = ap (λ (y : Reactor L K). y.turn) z ∙ h.turn;
         }

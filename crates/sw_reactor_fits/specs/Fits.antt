@@ -1,12 +1,11 @@
 -- A reactor of the code is one of the table.
-use Rattle.std.specs.Prelude.{◌≡◌, ◌⊎◌, ℕ, ◌+◌, ◌-◌, ◌<◌, ◌≤◌, ◌%◌, ◌^◌, Bool, true, nat_lt, if◌then◌else◌, List, [], ◌∷◌, ◌++◌, length, Option, Some, None}
+use Rattle.std.specs.Prelude.{◌≡◌, ℕ, ◌-◌, ◌<◌, ◌%◌, ◌^◌, nat_lt, if◌then◌else◌, List, [], ◌∷◌, length}
 use Rattle.sw_data.specs.declared.messages.Ask.TheVariants as ask
 use Rattle.sw_data.specs.declared.messages.Got.{Got}
 use Rattle.sw_data.specs.declared.messages.Got.TheVariants as gots
 use Rattle.sw_data.specs.declared.messages.Msg.{Msg}
 use Rattle.sw_data.specs.declared.messages.Msg.TheVariants as msgs
 use Rattle.sw_data.specs.declared.messages.Target.TheVariants as targets
-use Rattle.sw_lists.specs.Lists.{collect, Each}
 use Rattle.sw_conn.specs.declared.conn.Conn.{Conn}
 use Rattle.sw_conn.specs.Conn.{kind_of}
 use Rattle.sw_record.specs.Words.{Event, Connect, Packet, Closed, Finish, Task}

@@ -1,5 +1,5 @@
 -- What a reactor's ports do in a turn: the calls of the table, each with its answer, one after the other.
-use Rattle.std.specs.Prelude.{◌≡◌, ◌⊎◌, ℕ, ◌%◌, Bool, true, false, List, [], ◌∷◌, ◌++◌, Option}
+use Rattle.std.specs.Prelude.{◌≡◌, ◌⊎◌, Bool, true, false, List, [], ◌∷◌, ◌++◌}
 use Rattle.sw_data.specs.declared.ended.Ended.{Ended}
 use Rattle.sw_data.specs.declared.messages.Got.{Got}
 use Rattle.sw_port_board.specs.Board.{members, FindsIdle}

@@ -1,6 +1,6 @@
 -- A session that came to a reactor and wasn't released by it stands in its word.
-use Rattle.std.proofs.Common.{◌≡◌, ◌⊎◌, ℕ, ◌<◌, ◌%◌, List, ◌∙◌, sym, subst, inl, inr}
-use Rattle.sw_lists.specs.Lists.{collect, Each, Has}
+use Rattle.std.proofs.Common.{◌≡◌, ℕ, ◌<◌, ◌%◌, List, ◌∙◌, sym, subst, inl, inr}
+use Rattle.sw_lists.specs.Lists.{collect, Has}
 use Rattle.sw_step.specs.declared.actor.ActorId.TheVariants.{Reactor}
 use Rattle.sw_record.specs.Terms.{Terms}
 use Rattle.sw_record.specs.Places.{Ran}

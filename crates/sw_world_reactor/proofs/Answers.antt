@@ -1,21 +1,21 @@
 -- A turn's answers may be taken to be faithful: the release's matters only where a connection leaves.
-use Rattle.std.proofs.Common.{◌≡◌, ◌⊎◌, ℕ, ◌+◌, ◌-◌, ◌^◌, ◌==◌, Bool, true, false, nat_lt, if◌then◌else◌, List, [], ◌∷◌, ◌++◌, Option, Some, None, refl, ap, ◌∙◌, sym, subst, inl, inr}
+use Rattle.std.proofs.Common.{◌≡◌, ◌⊎◌, ℕ, ◌-◌, ◌^◌, ◌==◌, Bool, true, false, nat_lt, if◌then◌else◌, List, [], ◌∷◌, ◌++◌, Option, Some, None, refl, ap, ◌∙◌, sym, subst, inl, inr}
 use Rattle.std.specs.Bool.{MatchBool}
 use Rattle.sw_lists.specs.Lists.{collect, Each}
 use Rattle.sw_data.specs.declared.messages.Got.{Got as TableGot}
 use Rattle.sw_frame.specs.Cutting.{next_of}
 use Rattle.sw_frame.specs.declared.next.Next.{Next}
 use Rattle.sw_frame.specs.declared.next.Next.TheVariants as next
-use Rattle.sw_record.specs.Words.{Event, Connect, Packet, Closed, Cause, EndedCount}
+use Rattle.sw_record.specs.Words.{Event, Connect, Cause, EndedCount}
 use Rattle.sw_record.specs.Terms.{Terms, keeps}
 use Rattle.sw_past.specs.Messages.{Message}
-use Rattle.sw_world_ports.specs.Calls.{Did, Looks, Lives, Other, Idles, Frees, Adds}
+use Rattle.sw_world_ports.specs.Calls.{Did, Lives, Other, Frees, Adds}
 use Rattle.sw_world_ports.specs.Made.{found_in, free_in}
-use Rattle.sw_reactor_table.specs.Conn.{Conn, Answers, Does, Pushes, Moves, Stays, Leaves, Served, pushes, plain, starve, cutter, cut_by, cuts_next, end_by, cause_by, connects, open_by, held_by, tidied, serve, writes, over_link}
-use Rattle.sw_reactor_table.specs.Reactor.{Reactor as Table, Ask, Take, Push, Nothing, Rest, Finished, all, settled, turned, served_by, counted, serves, chosen, turn}
+use Rattle.sw_reactor_table.specs.Conn.{Conn, Answers, Does, Pushes, Moves, Stays, Leaves, Served, pushes, plain, starve, cutter, cut_by, cause_by, connects, held_by, tidied, serve, writes, over_link}
+use Rattle.sw_reactor_table.specs.Reactor.{Reactor as Table, Ask, Take, Push, Nothing, Rest, Finished, settled, turned, served_by, counted, serves, chosen, turn}
 use Rattle.sw_reactor_table.specs.Quiet.{IsIdle}
 use Rattle.sw_reactor_table.specs.Runs.{IsFaithful}
-use Rattle.sw_world_reactor.specs.Calls.{NoCalls, LookCalls, IdleCalls, AimCalls, PushCalls, DoesCalls, ServeCalls, NextCalls, ChoiceCalls, TurnCalls, packets_counted}
+use Rattle.sw_world_reactor.specs.Calls.{NoCalls, LookCalls, IdleCalls, AimCalls, DoesCalls, ServeCalls, NextCalls, ChoiceCalls}
 use Rattle.sw_world_reactor.specs.Reactors.{AllTold}
 
 -- the same answers with another release

@@ -1,15 +1,15 @@
 -- What stands among a turn's calls: packets and ends that it counted, the session that it released, the stop word, and that
 -- a reactor may make them.
-use Rattle.std.proofs.Common.{◌≡◌, ◌⊎◌, ℕ, ◌+◌, ◌<◌, ◌≤◌, ◌==◌, Bool, true, false, List, [], ◌∷◌, ◌++◌, length, Option, Some, None, refl, ap, ◌∙◌, sym, subst, arith, inl, inr, suc}
+use Rattle.std.proofs.Common.{◌≡◌, ◌⊎◌, ℕ, ◌+◌, ◌<◌, ◌≤◌, ◌==◌, Bool, true, false, List, [], ◌∷◌, ◌++◌, length, Option, Some, None, refl, ap, ◌∙◌, sym, subst, arith, inr, suc}
 use Rattle.std.specs.Bool.{MatchBool}
 use Rattle.sw_lists.specs.Lists.{collect, Each}
 use Rattle.sw_lists.proofs.Lists.{collect-append, length_append, each_append}
 use Rattle.sw_data.specs.declared.messages.Got.{Got as TableGot}
 use Rattle.sw_step.specs.declared.actor.ActorId.TheVariants.{Reactor}
-use Rattle.sw_record.specs.Words.{Event, Cause, PacketsCount, EndedCount}
+use Rattle.sw_record.specs.Words.{Event, PacketsCount, EndedCount}
 use Rattle.sw_record.specs.Terms.{Terms, keeps}
 use Rattle.sw_past.specs.Messages.{Message}
-use Rattle.sw_world_ports.specs.Calls.{Did, Looks, Lives, Other, Idles, Frees, SeesStop, Adds, MayDo, IsReactor}
+use Rattle.sw_world_ports.specs.Calls.{Did, Looks, Lives, Other, Frees, SeesStop, Adds, MayDo}
 use Rattle.sw_world_ports.specs.Made.{found_in, free_in, saw_stop_in, add_in}
 use Rattle.sw_reactor_table.specs.Conn.{Conn, Answers, Does, Pushes, Moves, Stays, Leaves, tidied, serve}
 use Rattle.sw_reactor_table.specs.Reactor.{Reactor as Table, Ask, Take, Push, Nothing, Rest, Finished}

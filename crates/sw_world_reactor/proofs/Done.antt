@@ -1,5 +1,5 @@
 -- What a finished reactor shows.
-use Rattle.std.proofs.Common.{◌≡◌, ◌⊎◌, ℕ, ◌+◌, ◌<◌, ◌≤◌, Bool, true, false, List, [], ◌∷◌, ◌++◌, length, refl, ap, ◌∙◌, sym, subst, arith, Some}
+use Rattle.std.proofs.Common.{◌≡◌, ℕ, ◌<◌, ◌≤◌, Bool, true, false, List, [], ◌∷◌, ◌++◌, length, refl, ap, ◌∙◌, sym, subst, arith, Some}
 use Rattle.sw_lists.specs.Lists.{collect, when, Each, Has}
 use Rattle.sw_lists.proofs.Lists.{each_at}
 use Rattle.sw_frame.specs.Cut.{IsFit}
@@ -15,7 +15,6 @@ use Rattle.sw_past.specs.Messages.{Message}
 use Rattle.sw_past.specs.Past.{Mail, of}
 use Rattle.sw_past.specs.Views.{no_more}
 use Rattle.sw_past.specs.Routes.{IsHand, IsFair}
-use Rattle.sw_world_ports.specs.Calls.{IsReactor}
 use Rattle.sw_world_ports.proofs.Haves.{each_has}
 use Rattle.sw_world_laws.specs.Turns.{Diary}
 use Rattle.sw_world_laws.specs.Shows.{HasWord}

@@ -1,5 +1,5 @@
 -- The reactors alone, as actors of the world.
-use Rattle.std.proofs.Common.{◌≡◌, ℕ, ◌<◌, nat_lt, Bool, true, false, List, [], refl, sym, subst, arith, inl}
+use Rattle.std.proofs.Common.{◌≡◌, ℕ, ◌<◌, nat_lt, true, false, List, [], refl, sym, subst, arith, inl}
 use Rattle.std.proofs.lemmas.Bool.Decides.{nat_tests}
 use Rattle.sw_lists.specs.Lists.{Each}
 use Rattle.sw_frame.specs.Cut.{IsFit}
@@ -7,7 +7,7 @@ use Rattle.sw_step.specs.declared.actor.ActorId.{ActorId}
 use Rattle.sw_step.specs.declared.actor.ActorId.TheVariants.{Door, Reactor, Worker, Tasker}
 use Rattle.sw_record.specs.Terms.{Terms}
 use Rattle.sw_world_ports.specs.Calls.{Did, MayDo, IsReactor}
-use Rattle.sw_world_laws.specs.Turns.{Ask, Got, GotStart, no_diary}
+use Rattle.sw_world_laws.specs.Turns.{Ask, Got}
 use Rattle.sw_world_laws.specs.Actors.{Feed, Actors}
 use Rattle.sw_reactor_table.specs.Reactor.{Reactor as Table, settled, kept, started}
 use Rattle.sw_world_reactor.specs.Reactors.{table_got, RTurn, is_reactor, told_by, RQuiet, RDone}

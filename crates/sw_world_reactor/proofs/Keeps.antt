@@ -1,29 +1,29 @@
 -- A turn keeps the reactor's law.
-use Rattle.std.proofs.Common.{◌≡◌, ◌⊎◌, ℕ, ◌+◌, ◌<◌, ◌≤◌, nat_lt, Bool, true, false, if◌then◌else◌, List, [], ◌∷◌, ◌++◌, length, refl, ap, ◌∙◌, sym, subst, append-nil, arith, inl, inr}
+use Rattle.std.proofs.Common.{◌≡◌, ◌⊎◌, ℕ, ◌+◌, ◌≤◌, nat_lt, Bool, true, false, if◌then◌else◌, List, [], ◌∷◌, ◌++◌, length, refl, ap, ◌∙◌, sym, subst, append-nil, arith, inl, inr}
 use Rattle.std.proofs.lemmas.Bool.Decides.{nat_tests}
 use Rattle.sw_lists.specs.Lists.{collect, Each}
 use Rattle.sw_lists.proofs.Lists.{collect-append, length_append, each_append, each_left, each_right, append_none}
 use Rattle.sw_data.specs.declared.messages.Got.{Got as TableGot}
 use Rattle.sw_data.specs.declared.messages.Got.TheVariants as gots
 use Rattle.sw_step.specs.declared.actor.ActorId.{ActorId}
-use Rattle.sw_step.specs.declared.actor.ActorId.TheVariants.{Reactor, Worker}
+use Rattle.sw_step.specs.declared.actor.ActorId.TheVariants.{Worker}
 use Rattle.sw_record.specs.Words.{PacketsCount, EndedCount}
 use Rattle.sw_record.specs.Terms.{Terms}
 use Rattle.sw_past.specs.Messages.{Message, FreshMsg, SendMsg, CloseMsg, ResetMsg, Bye, EventMsg, OverMsg, NoMore}
-use Rattle.sw_past.specs.Past.{Mail, bare, msg_of, of}
+use Rattle.sw_past.specs.Past.{Mail, bare, msg_of}
 use Rattle.sw_past.specs.Views.{fresh_in, no_more}
 use Rattle.sw_world_ports.specs.Calls.{Did, IsReactor}
 use Rattle.sw_world_ports.specs.Made.{found_in, free_in, saw_stop_in, add_in}
-use Rattle.sw_world_laws.specs.Turns.{Ask, AskTake, AskPush, AskNothing, AskRest, AskFinished, Got, GotStart, GotTook, GotEmpty, GotPushed, GotFull, GotNothing, Diary, no_diary, with_dids, After}
+use Rattle.sw_world_laws.specs.Turns.{Ask, Got, GotStart, GotTook, GotEmpty, GotPushed, GotFull, GotNothing, Diary, no_diary, with_dids, After}
 use Rattle.sw_world_laws.specs.Actors.{Feed}
-use Rattle.sw_reactor_table.specs.Conn.{Conn, Answers}
-use Rattle.sw_reactor_table.specs.Reactor.{Reactor as Table, Ask as TableAsk, Take, Push, Nothing, Rest, Finished, settled, chosen, turn, started}
+use Rattle.sw_reactor_table.specs.Conn.{Answers}
+use Rattle.sw_reactor_table.specs.Reactor.{Reactor as Table, Ask as TableAsk, Take, Push, Nothing, Rest, Finished, settled, turn, started}
 use Rattle.sw_reactor_table.specs.Runs.{Called, TookOne, FoundNone, PushedOne, CameBack, NoCall, Runs, First, Then, IsFaithful}
 use Rattle.sw_reactor_laws.specs.Ending.{Counts, Chose, LinksFirst}
 use Rattle.sw_reactor_laws.specs.Histories.{counts_in, counted_in, frees, at_served, freed_in}
 use Rattle.sw_reactor_laws.specs.Stopped.{stop_at, stop_read}
 use Rattle.sw_reactor_laws.proofs.Ending.{chosen_chose, CountsAfter, call_counts}
-use Rattle.sw_world_reactor.specs.Calls.{ChoiceCalls, packets_counted}
+use Rattle.sw_world_reactor.specs.Calls.{packets_counted}
 use Rattle.sw_world_reactor.specs.Reactors.{ComesFirst, GotFirst, table_got, world_ask, ReactorTurn, RTurn, AllTold, RunWith, GoesToWorker, Ran, Behind, QuietBy, RQuiet, RDone}
 use Rattle.sw_world_reactor.proofs.Answers.{Faithful, be_faithful}
 use Rattle.sw_world_reactor.proofs.Calls.{Turned, choice_chose, turn_made, told_rest}
@@ -61,9 +61,10 @@ link_first NoMore s f some = refl
 
 links_append : (took : Mail) (from : ActorId) (m : Message) → LinksFirst took → (¬ (collect no_more (bare took) ≡ []) → fresh_in m ≡ []) → LinksFirst (took ++ (from, m) ∷ [])
 links_append [] from m h f = ((λ some. refl), tt)
-links_append (x ∷ ms) from m h f =
-    ((λ some. collect_more ms from m ∙ ap (λ (zs : List ℕ). zs ++ fresh_in m) (h.0 some) ∙ f (λ z. some (append_none (no_more x.1) (collect no_more (bare ms)) z).0)),
-    links_append ms from m h.1 (λ some. f (λ z. some (append_none (no_more x.1) (collect no_more (bare ms)) z).1)))
+links_append (x ∷ ms) from m h f = (
+  (λ some. collect_more ms from m ∙ ap (λ (zs : List ℕ). zs ++ fresh_in m) (h.0 some) ∙ f (λ z. some (append_none (no_more x.1) (collect no_more (bare ms)) z).0)),
+  links_append ms from m h.1 (λ some. f (λ z. some (append_none (no_more x.1) (collect no_more (bare ms)) z).1)),
+)
   where
     collect_more : (zs : Mail) (from : ActorId) (m : Message) → collect fresh_in (bare (zs ++ (from, m) ∷ [])) ≡ collect fresh_in (bare zs) ++ fresh_in m
     collect_more zs from m = ap (collect fresh_in) (collect-append msg_of zs ((from, m) ∷ [])) ∙ collect-append fresh_in (bare zs) (m ∷ []) ∙ ap (λ (ys : List ℕ). collect fresh_in (bare zs) ++ ys) (append-nil (fresh_in m))
@@ -95,17 +96,17 @@ first_ran t dids u ask h =
         let f : Faithful t word h.starved h.answers gots.Start started (h.calls).0 = be_faithful t word h.starved h.answers gots.Start started (h.calls).0 h.idle ds (h.calls).1.1 in
         let m = turn_made (at_served (frees t f.answers (settled t h.starved gots.Start started).round) started.last (settled t h.starved gots.Start started).next) (stop_at started.last f.answers.stop) [] (h.calls).0 (choice_chose t f.answers started.last (settled t h.starved gots.Start started) (h.calls).0 f.calls) in
         subst (λ (x : Table). RunWith t word [] [] x dids) f.same
-          (subst (RunWith t word [] [] (turn t h.starved f.answers gots.Start started)) (sym (h.calls).1.0)
-            (record { run = First h.starved f.answers f.faithful; frees = m.frees; ends = m.ends; packets = m.counts; stops = m.stops })))
+        (subst (RunWith t word [] [] (turn t h.starved f.answers gots.Start started)) (sym (h.calls).1.0)
+        (record { run = First h.starved f.answers f.faithful; frees = m.frees; ends = m.ends; packets = m.counts; stops = m.stops })))
 
 -- and each later one
 then_ran : (t : Terms) (s : Table) (got : Got) (dids : List Did) (u : Table) (ask : Ask) (d : Diary) → ReactorTurn t s got dids u ask → Behind t s (table_got got) d → Ran t d.took d.pushed u (d.dids ++ dids)
 then_ran t s got dids u ask d h b =
     (let c : CountsAfter t d.took d.pushed (turn t h.starved h.answers (table_got got) s) =
-       count_turn t h.starved h.answers (table_got got) d.took d.pushed s
-       (call_counts t s b.took b.pushed d.took d.pushed (table_got got) b.call (record { counts = b.ran.counts; giving = b.ran.giving; done = b.ran.done }) h.starved) in
+    count_turn t h.starved h.answers (table_got got) d.took d.pushed s
+    (call_counts t s b.took b.pushed d.took d.pushed (table_got got) b.call (record { counts = b.ran.counts; giving = b.ran.giving; done = b.ran.done }) h.starved) in
     subst (λ (x : Table). Ran t d.took d.pushed x (d.dids ++ dids)) (sym h.state)
-      (record { counts = c.counts; giving = c.giving; done = c.done; only = only b.took b.pushed d.took d.pushed (table_got got) b.call b.ran.only; first = came got h.first d.took d.pushed b.call; runs = λ word told. runs word told }))
+    (record { counts = c.counts; giving = c.giving; done = c.done; only = only b.took b.pushed d.took d.pushed (table_got got) b.call b.ran.only; first = came got h.first d.took d.pushed b.call; runs = λ word told. runs word told }))
   where
     only : (took pushed later more : Mail) (g : TableGot Message) → Called s took pushed later more g → Each GoesToWorker pushed → Each GoesToWorker more
     only took pushed _ _ _ (TookOne e from m) k = k
@@ -135,8 +136,8 @@ then_ran t s got dids u ask d h b =
         let f : Faithful t word h.starved h.answers g s (h.calls).0 = be_faithful t word h.starved h.answers g s (h.calls).0 h.idle new (h.calls).1.1 in
         let m : Turned (at_served (frees t f.answers now.round) s.last now.next) (stop_at s.last f.answers.stop) (length (counts_in g s.last)) (packets_counted g s.last ++ (h.calls).0) = turn_made (at_served (frees t f.answers now.round) s.last now.next) (stop_at s.last f.answers.stop) (counts_in g s.last) (h.calls).0 (choice_chose t f.answers s.last now (h.calls).0 f.calls) in
         subst (λ (x : Table). RunWith t word d.took d.pushed x (d.dids ++ dids)) f.same
-          (subst (λ (ds : List Did). RunWith t word d.took d.pushed (turn t h.starved f.answers g s) (d.dids ++ ds)) (sym (h.calls).1.0)
-            (both word old.run g f.answers f.faithful (packets_counted g s.last ++ (h.calls).0) old.frees old.ends old.packets old.stops b.call m)))
+        (subst (λ (ds : List Did). RunWith t word d.took d.pushed (turn t h.starved f.answers g s) (d.dids ++ ds)) (sym (h.calls).1.0)
+        (both word old.run g f.answers f.faithful (packets_counted g s.last ++ (h.calls).0) old.frees old.ends old.packets old.stops b.call m)))
       where
         both : (word : ℕ → ℕ) (run : Runs t word b.took b.pushed s) (g : TableGot Message) (a : Answers) (faithful : IsFaithful t word a (settled t h.starved g s)) (ds : List Did) → collect free_in d.dids ≡ freed_in run → length (collect (add_in EndedCount) d.dids) ≤ length (collect free_in d.dids) → length (collect (add_in PacketsCount) d.dids) ≡ length (counted_in run) → (stop_read run ≡ true → ¬ (collect saw_stop_in d.dids ≡ [])) → (call : Called s b.took b.pushed d.took d.pushed g) → Turned (at_served (frees t a (settled t h.starved g s).round) s.last (settled t h.starved g s).next) (stop_at s.last a.stop) (length (counts_in g s.last)) ds → RunWith t word d.took d.pushed (turn t h.starved a g s) (d.dids ++ ds)
         both word run g a faithful ds fs oe op os call m =
@@ -155,12 +156,14 @@ then_ran t s got dids u ask d h b =
 
 -- whatever the pipe answers
 pub after_ran : (t : Terms) (y : ActorId) (u : Table) (d : Diary) → IsReactor t y → Ran t d.took d.pushed u d.dids → (l : TableAsk) → u.last ≡ l → After t (RQuiet t y) (RDone t y) u (world_ask l) d
-after_ran t y u d i r Take e =
-    ((i, record { took = d.took; pushed = d.pushed; ran = r; call = FoundNone e }),
-    λ who m. (i, record { took = d.took; pushed = d.pushed; ran = r; call = TookOne e who m }))
-after_ran t y u d i r (Push w m) e =
-    ((λ there. (i, record { took = d.took; pushed = d.pushed; ran = r; call = PushedOne w m e })),
-    (i, record { took = d.took; pushed = d.pushed; ran = r; call = CameBack w m e }))
+after_ran t y u d i r Take e = (
+  (i, record { took = d.took; pushed = d.pushed; ran = r; call = FoundNone e }),
+  λ who m. (i, record { took = d.took; pushed = d.pushed; ran = r; call = TookOne e who m }),
+)
+after_ran t y u d i r (Push w m) e = (
+  (λ there. (i, record { took = d.took; pushed = d.pushed; ran = r; call = PushedOne w m e })),
+  (i, record { took = d.took; pushed = d.pushed; ran = r; call = CameBack w m e }),
+)
 after_ran t y u d i r Nothing e = (i, record { took = d.took; pushed = d.pushed; ran = r; call = NoCall (inl e) })
 after_ran t y u d i r Rest e = (i, record { took = d.took; pushed = d.pushed; ran = r; call = NoCall (inr e) })
 after_ran t y u d i r Finished e = (i, (e, r))

@@ -1,5 +1,5 @@
 -- A serve keeps its connection's session.
-use Rattle.std.proofs.Common.{◌≡◌, ℕ, ◌+◌, ◌-◌, ◌^◌, ◌==◌, Bool, true, false, nat_lt, if◌then◌else◌, List, [], ◌∷◌, ◌++◌, Option, Some, None, refl, ◌∙◌}
+use Rattle.std.proofs.Common.{◌≡◌, ℕ, ◌+◌, ◌-◌, ◌^◌, ◌==◌, Bool, true, false, nat_lt, if◌then◌else◌, List, [], ◌∷◌, Option, Some, None, refl, ◌∙◌}
 use Rattle.sw_frame.specs.Cutting.{next_of}
 use Rattle.sw_frame.specs.declared.next.Next.{Next}
 use Rattle.sw_frame.specs.declared.next.Next.TheVariants as next
@@ -7,9 +7,9 @@ use Rattle.sw_link.specs.declared.link.LinkWrite.{LinkWrite}
 use Rattle.sw_link.specs.declared.link.LinkWrite.TheVariants as writing
 use Rattle.sw_link.specs.Reads.{Read, GotPiece, ReadNotYet, ReadEnd, ReadFailed}
 use Rattle.sw_conn.specs.Causes.{is_hard}
-use Rattle.sw_record.specs.Words.{Event, Connect, Packet, Closed, Cause}
+use Rattle.sw_record.specs.Words.{Event, Connect, Closed, Cause}
 use Rattle.sw_record.specs.Terms.{Terms}
-use Rattle.sw_reactor_table.specs.Conn.{Conn, Answers, Leaves, Stays, Served, wrote, flushed_some, flushed, tidied, looked, pushes, plain, starve, cutter, read_by, cut_by, cuts_next, closes, can_leave, end_by, cause_by, connects, open_by, held_by, serve}
+use Rattle.sw_reactor_table.specs.Conn.{Conn, Answers, Leaves, Stays, wrote, flushed_some, flushed, tidied, looked, pushes, plain, starve, cutter, read_by, cut_by, cuts_next, closes, can_leave, end_by, cause_by, connects, held_by, serve}
 
 pub looked_session : (t : Terms) (a : Answers) (c : Conn) → (looked t a c).session ≡ c.session
 looked_session t a c = pick (t.mode == 5) (c.uid == 0)

@@ -1,5 +1,5 @@
 -- What the reactor's law shows.
-use Rattle.std.proofs.Common.{◌≡◌, ◌⊎◌, ℕ, ◌+◌, ◌<◌, ◌≤◌, ◌%◌, ◌==◌, Bool, true, false, if◌then◌else◌, List, [], ◌∷◌, ◌++◌, length, Option, Some, None, refl, ap, ◌∙◌, sym, subst, append-nil, arith, inl, inr, zero, suc}
+use Rattle.std.proofs.Common.{◌≡◌, ◌⊎◌, ℕ, ◌+◌, ◌<◌, ◌%◌, ◌==◌, Bool, true, false, if◌then◌else◌, List, [], ◌∷◌, ◌++◌, length, Option, Some, None, refl, ap, ◌∙◌, sym, subst, append-nil, arith, inl, inr, zero, suc}
 use Rattle.sw_lists.specs.Lists.{collect, Each, Has}
 use Rattle.sw_lists.specs.Numbers.{Distinct}
 use Rattle.sw_lists.proofs.Lists.{collect-append, collect-same, each_more, each_at, eq_same, eq_other, equal_or_not, append_none}
@@ -12,7 +12,7 @@ use Rattle.sw_link.specs.declared.link.LinkWrite.{LinkWrite}
 use Rattle.sw_link.specs.Reads.{Read}
 use Rattle.sw_record.specs.declared.record.LinkRecord.{LinkRecord}
 use Rattle.sw_record.specs.declared.record.LinkState.{LinkState}
-use Rattle.sw_record.specs.declared.record.LinkState.TheVariants.{Waiting, Live, Over}
+use Rattle.sw_record.specs.declared.record.LinkState.TheVariants.{Live, Over}
 use Rattle.sw_record.specs.Words.{Cause, PeerEnd, ServerClose, ResetCause, ReadFault, WriteFault, TooLong, BadLength, Overflow, Stop, NoSlot, NumbersSpent, NoMemory, Ended}
 use Rattle.sw_record.specs.Terms.{Terms, session_of, ended_of}
 use Rattle.sw_record.specs.Causes.{ShowsCause}
@@ -28,13 +28,13 @@ use Rattle.sw_world_ports.specs.Calls.{Did, IsReactor}
 use Rattle.sw_world_ports.specs.Made.{found_in, free_in, firsts}
 use Rattle.sw_world_ports.proofs.Haves.{each_has, has_left, has_right, has_split}
 use Rattle.sw_world_laws.specs.Turns.{Ask, AskTake, AskPush, AskNothing, AskRest, AskFinished, Got, GotStart, GotTook, GotEmpty, GotPushed, GotFull, GotNothing, Diary, no_diary, After}
-use Rattle.sw_world_laws.specs.Shows.{Tells, FitsKept, HasWord, ReactorMore, Shows}
+use Rattle.sw_world_laws.specs.Shows.{FitsKept, HasWord, ReactorMore, Shows}
 use Rattle.sw_world_laws.specs.Account.{is_session}
 use Rattle.sw_world_laws.proofs.Locals.{no_hand_reactor}
 use Rattle.sw_reactor_table.specs.Conn.{Conn, live_link}
 use Rattle.sw_reactor_table.specs.Reactor.{Reactor as Table, all, live_links, kept, started}
 use Rattle.sw_reactor_table.specs.Quiet.{session_over, some_list}
-use Rattle.sw_reactor_table.specs.Runs.{Called, TookOne, FoundNone, PushedOne, CameBack, NoCall, Runs}
+use Rattle.sw_reactor_table.specs.Runs.{Called, TookOne, FoundNone, PushedOne, CameBack, NoCall}
 use Rattle.sw_reactor_table.proofs.Grows.{fit_grows}
 use Rattle.sw_reactor_table.proofs.Final.{always, mode_laws}
 use Rattle.sw_reactor_table.proofs.Law.{call_fair}
@@ -77,9 +77,9 @@ over_same d e q = cc
 -- a link that ended is one of those that were put
 over_has : (t : Terms) (s : Table) (l : LinkRecord) (e : Ended) → Has l (kept t s) → l.state ≡ Over e → Has l s.over
 over_has t s l e has is = elim (has_split l (live_links t (all s)) s.over has) [
-    | inl h ↦ absurd (let c = live_is t (all s) l h in not_over _ e (sym (ap (λ (k : LinkRecord). k.state) c.1) ∙ is))
-    | inr h ↦ h
-  ]
+  | inl h ↦ absurd (let c = live_is t (all s) l h in not_over _ e (sym (ap (λ (k : LinkRecord). k.state) c.1) ∙ is))
+  | inr h ↦ h
+]
 
 -- what ended is told
 test_session : (s : ℕ) (o : Option ℕ) → o ≡ Some s → (f : Bool) → (if is_session s o then f else false) ≡ f
@@ -207,11 +207,11 @@ more_shown t some fit n lt s took pushed d h word told fair =
 
     fits : (k : ℕ) (l : LinkRecord) → Has l (kept t s) → session_of l.state ≡ Some k → FitsKept t k l
     fits k l has own = elim (has_split l (live_links t (all s)) s.over has) [
-        | inl f ↦ (let c = live_is t (all s) l f in subst (FitsKept t k) (sym c.1) (live_fits k c.0 (sym (ap (λ (y : LinkRecord). session_of y.state) c.1) ∙ own)))
-        | inr f ↦ (let e = each_has _ s.over l listed.ended f in
-            let r = each_has _ (kept t s) l x.rests has k e.0 own e.1 in
-            record { ended = e.0; is = ap ended_of e.1; fd = r.1; ip = r.2; cause = caused k l.pieces (e.0).cause r.0 })
-      ]
+      | inl f ↦ (let c = live_is t (all s) l f in subst (FitsKept t k) (sym c.1) (live_fits k c.0 (sym (ap (λ (y : LinkRecord). session_of y.state) c.1) ∙ own)))
+      | inr f ↦ (let e = each_has _ s.over l listed.ended f in
+          let r = each_has _ (kept t s) l x.rests has k e.0 own e.1 in
+          record { ended = e.0; is = ap ended_of e.1; fd = r.1; ip = r.2; cause = caused k l.pieces (e.0).cause r.0 })
+    ]
       where
         live_fits : (k : ℕ) (c : Conn) → Some c.session ≡ Some k → FitsKept t k (live_link t c)
         live_fits k c q = record { ended = _; is = refl; fd = (let i : c.session ≡ k = cc in ap (λ (v : ℕ). v % t.max_conn) i); ip = refl; cause = ((λ z. absurd (cc)), (λ z. absurd (cc))) }
@@ -250,16 +250,18 @@ behind_shows : (t : Terms) → 0 < t.worker_num → IsFit t.framing → (n : ℕ
 behind_shows t some fit n lt s got d b word =
     (let told : AllTold word.word d.dids = told_of d.dids word in
     let go = called_more s b.took b.pushed d.took d.pushed got b.call in
-    let w : RunWith t word.word b.took b.pushed s d.dids = b.ran.runs word.word told in
-    ((always t word.word some fit n lt b.took b.pushed s w.run).behind d.took d.pushed got b.call,
-    λ fair. more_shown t some fit n lt s b.took b.pushed d (record { runs = b.ran.runs; rest = go.0; goes = go.1; fair = λ f. call_fair t n s b.took b.pushed d.took d.pushed got b.call f }) word.word told fair))
+    let w : RunWith t word.word b.took b.pushed s d.dids = b.ran.runs word.word told in (
+      (always t word.word some fit n lt b.took b.pushed s w.run).behind d.took d.pushed got b.call,
+      λ fair. more_shown t some fit n lt s b.took b.pushed d (record { runs = b.ran.runs; rest = go.0; goes = go.1; fair = λ f. call_fair t n s b.took b.pushed d.took d.pushed got b.call f }) word.word told fair,
+    ))
 
 done_shows_all : (t : Terms) → 0 < t.worker_num → IsFit t.framing → (n : ℕ) → n < t.reactor_num → (s : Table) (d : Diary) → Ran t d.took d.pushed s d.dids → law_and_more t n s d
 done_shows_all t some fit n lt s d r word =
     (let told : AllTold word.word d.dids = told_of d.dids word in
-    let w : RunWith t word.word d.took d.pushed s d.dids = r.runs word.word told in
-    ((always t word.word some fit n lt d.took d.pushed s w.run).before,
-    λ fair. more_shown t some fit n lt s d.took d.pushed d (record { runs = r.runs; rest = []; goes = sym (append-nil d.took); fair = λ f. f }) word.word told fair))
+    let w : RunWith t word.word d.took d.pushed s d.dids = r.runs word.word told in (
+      (always t word.word some fit n lt d.took d.pushed s w.run).before,
+      λ fair. more_shown t some fit n lt s d.took d.pushed d (record { runs = r.runs; rest = []; goes = sym (append-nil d.took); fair = λ f. f }) word.word told fair,
+    ))
 
 silent : (t : Terms) (n : ℕ) → law_and_more t n started no_diary
 silent t n word = (

@@ -1,5 +1,5 @@
 -- Which calls on the book and the board a turn of the table makes, by what they answer.
-use Rattle.std.specs.Prelude.{◌≡◌, ℕ, ◌%◌, ◌==◌, Bool, false, List, [], ◌∷◌, ◌++◌, Option, Some, None}
+use Rattle.std.specs.Prelude.{◌≡◌, ℕ, ◌%◌, ◌==◌, false, List, [], ◌∷◌, ◌++◌, Option, Some, None}
 use Rattle.std.specs.Bool.{MatchBool}
 use Rattle.sw_data.specs.declared.messages.Got.{Got}
 use Rattle.sw_lists.specs.Lists.{collect}

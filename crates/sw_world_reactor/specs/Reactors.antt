@@ -1,5 +1,5 @@
 -- The reactor as an actor of the world: its turn, by its table, and its local law.
-use Rattle.std.specs.Prelude.{◌≡◌, ◌⊎◌, ℕ, ◌<◌, ◌≤◌, ◌==◌, Bool, true, false, nat_lt, if◌then◌else◌, List, [], ◌∷◌, ◌++◌, length, Some}
+use Rattle.std.specs.Prelude.{◌≡◌, ◌⊎◌, ℕ, ◌≤◌, Bool, true, false, nat_lt, if◌then◌else◌, List, [], ◌∷◌, length}
 use Rattle.sw_lists.specs.Lists.{collect, Each}
 use Rattle.sw_data.specs.declared.messages.Got.{Got as TableGot}
 use Rattle.sw_data.specs.declared.messages.Got.TheVariants as gots
