@@ -1,19 +1,31 @@
-//! The program: makes the real source and sink, hands them and the arguments to the top call, and ends with its number.
+//! The program: makes the real source, sink and net, hands them and the arguments to the top calls, and ends with their number.
 #![tactic(auto)]
 
 use std::process::ExitCode;
 use std::{env, io};
 use sw_causes::{ReaderSource, WriterSink};
+use sw_link::Dropper;
+use sw_mio::MioNet;
+use sw_serve::{Options, options_of, serve};
+use sw_spawn::Threads;
 use sw_top::command_line;
 
 /// What is printed on standard error beside `fault usage`.
 const USAGE: &str = "usage: swd drill     reads a schedule, plays it and prints the record
        swd settings  reads a JSON object and prints all settings
        swd audit     reads a trace of calls of the Table and judges it
-       swd timers    reads lines on timers, plays them and prints what they answer";
+       swd timers    reads lines on timers, plays them and prints what they answer
+       swd serve [--port N] [--accept N]
+                     reads settings and rules, and serves on 127.0.0.1";
 
 /// The exit status of words that are no command.
 const IS_USAGE: u8 = 2;
+
+/// The port that is listened on where none is named.
+const PORT: u64 = 9501;
+
+/// As many ends as any server needs: one for each reactor, and the door's.
+const ENDS: usize = 65;
 
 /// The arguments, of which the first is the program's own name.
 fn arguments(rt: &HostRuntime) -> io::Result<Vec<String>> {
@@ -24,10 +36,51 @@ fn arguments(rt: &HostRuntime) -> io::Result<Vec<String>> {
     Ok(all)
 }
 
-fn main(rt: HostRuntime) -> ExitCode {
+/// The options behind `serve`, where the arguments ask for it.
+fn serves(arguments: &Option<Vec<String>>) -> Option<Options> {
+    match arguments {
+        None => None,
+        Some(all) => match all.as_slice() {
+            [_, command, words @ ..] => {
+                if command.as_str() == "serve" {
+                    options_of(words)
+                } else {
+                    None
+                }
+            }
+            _ => None,
+        },
+    }
+}
+
+/// Serves on a port of 127.0.0.1.
+fn serve_on(rt: HostRuntime, options: Options) -> u8 {
+    let port = options.port.unwrap_or(PORT) as u16;
+    let net = MioNet::new(rt, port, options.accept);
+    let Ok(ends) = vec![in rt.alloc(); Dropper::new(); ENDS] else {
+        return 5;
+    };
     let mut source = ReaderSource::new(rt.reader());
     let mut sink = WriterSink::new(io::writer(&rt));
+    let status = serve(
+        rt,
+        rt.alloc(),
+        &mut source,
+        &mut sink,
+        net,
+        ends,
+        &mut Threads {},
+    );
+    status.number()
+}
+
+fn main(rt: HostRuntime) -> ExitCode {
     let arguments = arguments(&rt).ok();
+    if let Some(options) = serves(&arguments) {
+        return ExitCode::from(serve_on(rt, options));
+    }
+    let mut source = ReaderSource::new(rt.reader());
+    let mut sink = WriterSink::new(io::writer(&rt));
     let status = command_line(rt.alloc(), arguments, &mut source, &mut sink);
     if status == IS_USAGE {
         let _ = eprintln!(rt; "{USAGE}");
