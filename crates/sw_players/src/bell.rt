@@ -5,7 +5,6 @@ use std::sync::{Arc, Wait};
 use std::thread::Parker;
 use std::time::Duration;
 use sw_data::Target;
-use sw_spawn::Went;
 
 /// What one player sleeps on, and the others ring. A ring before the sleep ends it at once, so none is lost.
 #[derive(Drop)]
@@ -50,8 +49,10 @@ pub struct Bells {
     pub taskers: Vec<Bell>,
     /// How long it sleeps at most, in milliseconds.
     pub most: u64,
-    /// How often in a row it rested.
+    /// How often it rested since something moved or it slept.
     pub rests: u64,
+    /// How often it slept since something moved.
+    pub sleeps: u64,
 }
 
 impl Bells {
@@ -67,20 +68,24 @@ impl Bells {
         }
     }
 
-    /// Wakes who was pushed to behind a turn.
-    pub fn after(&mut self, went: Went, to: Option<Target>) {
+    /// Behind a turn: wakes who was pushed to, and notes whether something moved.
+    pub fn after(&mut self, to: Option<Target>, moved: bool) {
         if let Some(to) = to {
             self.ring(to);
         }
-        if went == Went::Moved {
+        if moved {
             self.rests = 0;
+            self.sleeps = 0;
         }
     }
 
-    /// Sleeps until it is rung, the longer the more often in a row.
-    pub fn rest<R: Wait>(&mut self, rt: &R) {
+    /// Sleeps until it is rung, once it rested more often than so many times in a row: the longer, the more often in a row.
+    pub fn rest<R: Wait>(&mut self, rt: &R, round: u64) {
         self.rests = self.rests.saturating_add(1);
-        let most = self.rests.min(self.most);
-        self.own.sleep(rt, most);
+        if self.rests > round {
+            self.rests = 0;
+            self.sleeps = self.sleeps.saturating_add(1);
+            self.own.sleep(rt, self.sleeps.min(self.most));
+        }
     }
 }

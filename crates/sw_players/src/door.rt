@@ -11,7 +11,7 @@ ghost use Rattle.sw_spawn.specs.Ends.{is_end};
 
 use crate::bell::Bells;
 use crate::lines::Lines;
-use crate::went::{is_last, target_of, went_of};
+use crate::went::{is_last, passed, target_of, went_of};
 use std::marker::Model;
 use std::mem::replace;
 use std::sync::Wait;
@@ -63,7 +63,8 @@ where
         let to = target_of(&ask);
         self.got = self.lines.call(rt, ask);
         self.over = is_last(went);
-        self.bells.after(went, to);
+        let moved = passed(&self.got);
+        self.bells.after(to, moved);
         went
     }
 }
@@ -121,6 +122,6 @@ where
     pub(crate) fn rest<R: Wait>(&mut self, rt: &R)
         ensures over { self.new.over ≡ self.old.over }
     {
-        self.inner.bells.rest(rt);
+        self.inner.bells.rest(rt, 0);
     }
 }

@@ -15,7 +15,7 @@ ghost use Rattle.sw_worker.specs.Worker.{WorkerTurns};
 
 use crate::bell::Bells;
 use crate::lines::Lines;
-use crate::went::{is_last, target_of, went_of};
+use crate::went::{is_last, passed, target_of, went_of};
 use std::alloc::Global;
 use std::marker::Model;
 use std::mem::replace;
@@ -67,7 +67,8 @@ impl<L: Drop, J: Naming, H: Handler> Working<L, J, H> {
         let to = target_of(&ask);
         self.got = self.lines.call(rt, ask);
         self.over = is_last(went);
-        self.bells.after(went, to);
+        let moved = passed(&self.got);
+        self.bells.after(to, moved);
         went
     }
 }
@@ -112,7 +113,8 @@ impl<L: Drop, J: Naming, T: Handler> Tasking<L, J, T> {
         let to = target_of(&ask);
         self.got = self.lines.call(rt, ask);
         self.over = is_last(went);
-        self.bells.after(went, to);
+        let moved = passed(&self.got);
+        self.bells.after(to, moved);
         went
     }
 }
@@ -169,7 +171,7 @@ impl<L: Drop, J: Naming, H: Handler> WorkerPlayer<L, J, H> {
         ensures over { self.new.over ≡ self.old.over }
         ensures made { made H.made self.new.worker.handler ≡ made H.made self.old.worker.handler }
     {
-        self.inner.bells.rest(rt);
+        self.inner.bells.rest(rt, 0);
     }
 }
 
@@ -225,6 +227,6 @@ impl<L: Drop, J: Naming, T: Handler> TaskerPlayer<L, J, T> {
         ensures over { self.new.over ≡ self.old.over }
         ensures made { T.made self.new.tasker.handler ≡ T.made self.old.tasker.handler }
     {
-        self.inner.bells.rest(rt);
+        self.inner.bells.rest(rt, 0);
     }
 }

@@ -12,7 +12,7 @@ ghost use Rattle.sw_spawn.specs.Ends.{is_end};
 
 use crate::bell::Bells;
 use crate::lines::Lines;
-use crate::went::{is_last, target_of, went_of};
+use crate::went::{is_last, passed, target_of, went_of};
 use std::alloc::Global;
 use std::marker::Model;
 use std::mem::replace;
@@ -62,7 +62,8 @@ impl<L: Link + Drop, J: Naming, E: Ends<L>> Reacting<L, J, E> {
         let to = target_of(&ask);
         self.got = self.lines.call(rt, ask);
         self.over = is_last(went);
-        self.bells.after(went, to);
+        let moved = passed(&self.got) || self.reactor.still == 0;
+        self.bells.after(to, moved);
         went
     }
 }
@@ -118,6 +119,7 @@ impl<L: Link + Drop, J: Naming, E: Ends<L>> ReactorPlayer<L, J, E> {
     pub(crate) fn rest<R: Wait>(&mut self, rt: &R)
         ensures over { self.new.over ≡ self.old.over }
     {
-        self.inner.bells.rest(rt);
+        let round = self.inner.reactor.count() as u64;
+        self.inner.bells.rest(rt, round);
     }
 }

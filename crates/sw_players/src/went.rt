@@ -3,7 +3,7 @@ ghost use Rattle.std.specs.Prelude.{◌≡◌};
 ghost use Rattle.sw_players.specs.Lines.{is_over};
 ghost use Rattle.sw_spawn.specs.Ends.{is_end};
 
-use sw_data::{Ask, Target};
+use sw_data::{Ask, Got, Target};
 use sw_spawn::Went;
 
 /// How a turn went that asked for this.
@@ -35,5 +35,14 @@ pub(crate) fn is_last(went: Went) -> bool
         Went::Moved => false,
         Went::Resting => false,
         Went::Finished => true,
+    }
+}
+
+/// Whether a pipe call passed a message.
+pub(crate) fn passed<M>(got: &Got<M>) -> bool {
+    match got {
+        Got::Took(_) => true,
+        Got::Pushed => true,
+        _ => false,
     }
 }

@@ -66,6 +66,7 @@ impl Bellboard {
             taskers: shared(alloc, &self.taskers)?,
             most,
             rests: 0,
+            sleeps: 0,
         })
     }
 

@@ -44,7 +44,7 @@ pub(crate) fn first<X: Drop>(items: &mut Vec<X>) -> Result<X, OutOfMemory> {
     Ok(items.remove(0))
 }
 
-fn pipes<M: Drop>(
+fn make_pipes<M: Drop>(
     alloc: Global,
     capacity: u32,
     count: u32,
@@ -67,9 +67,9 @@ pub(crate) fn all_pipes<M: Drop>(
     let workers = settings.worker_num();
     let taskers = settings.task_worker_num();
     Ok(AllPipes {
-        reactors: pipes(alloc, capacity, reactors, workers + taskers + 1)?,
-        workers: pipes(alloc, capacity, workers, taskers + reactors)?,
-        taskers: pipes(alloc, capacity, taskers, workers)?,
+        reactors: make_pipes(alloc, capacity, reactors, workers + taskers + 1)?,
+        workers: make_pipes(alloc, capacity, workers, taskers + reactors)?,
+        taskers: make_pipes(alloc, capacity, taskers, workers)?,
     })
 }
 

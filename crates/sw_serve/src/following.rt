@@ -35,7 +35,7 @@ impl Handler for Following {
 }
 
 /// A handler of these rules, Echo without rules.
-pub fn following(script: &Option<Script>) -> Result<Following, OutOfMemory> {
+pub fn follower(script: &Option<Script>) -> Result<Following, OutOfMemory> {
     match script {
         None => Ok(Following::Echo(Echo)),
         Some(script) => Ok(Following::Rules(Scripted::new(script.copy()?))),

@@ -1,7 +1,7 @@
 //! `serve`, from its input to its output.
 
 use crate::counting::Counting;
-use crate::following::{Following, following};
+use crate::following::{Following, follower};
 use crate::input::{Input, InputRefusal, read_input};
 use crate::status::ServeStatus;
 use std::alloc::Global;
@@ -40,7 +40,7 @@ fn handlers(
 ) -> Result<Vec<Following>, OutOfMemory> {
     let mut all = Vec::with_capacity(alloc, count as usize)?;
     for _ in 0..count {
-        all.push(following(script)?)?;
+        all.push(follower(script)?)?;
     }
     Ok(all)
 }

@@ -136,21 +136,22 @@ impl<J: Naming> Book for NamedPass<J> {
 
     ghost release_finds = { pass_releases };
 
+    #[tactic(auto, using(crate::proofs::Passes::looked))]
     fn look(&mut self, session: Session) -> Look {
         self.pass.look(session)
     }
 
+    #[tactic(auto, using(crate::proofs::Passes::bound))]
     fn bind(&mut self, session: Session, uid: u32) -> Result<(), BindFault> {
         self.pass.bind(session, uid)
     }
 
+    #[tactic(auto, using(crate::proofs::Passes::released))]
     fn release(&mut self, ticket: NamedTicket<J>) -> u32 {
         self.pass.release(ticket.into_ticket())
     }
 
     fn apart(&mut self, one: &mut NamedTicket<J>, other: &mut NamedTicket<J>) {
-        let NamedTicket { ticket: first, .. } = one;
-        let NamedTicket { ticket: second, .. } = other;
-        self.pass.apart(first, second);
+        self.pass.apart(&mut one.ticket, &mut other.ticket);
     }
 }
