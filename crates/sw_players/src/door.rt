@@ -18,7 +18,7 @@ use std::sync::Wait;
 use sw_data::{Got, Msg};
 use sw_door::Door;
 use sw_link::{Ends, Net};
-use sw_shared::{NamedSeat, NamedClerk, NamedTicket, Naming};
+use sw_shared::{NamedClerk, NamedSeat, NamedTicket, Naming};
 use sw_spawn::Went;
 
 /// The door with its net, the clerk of the session words, its seat at the board, its ends, and its senders.
@@ -89,7 +89,7 @@ impl<N: Net, J: Naming, E> Model for DoorPlayer<N, J, E> {
 impl<N: Net, J: Naming, E: Ends<N::Link>> DoorPlayer<N, J, E>
 where
     N::Link: Drop,
- {
+{
     /// This one, before its first turn.
     pub fn new(inner: AtDoor<N, J, E>) -> DoorPlayer<N, J, E>
         requires { IsDoor inner.door }

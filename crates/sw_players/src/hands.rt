@@ -22,7 +22,7 @@ use std::mem::replace;
 use std::sync::Wait;
 use sw_data::{Got, Msg};
 use sw_handler::Handler;
-use sw_shared::{NamedSeat, NamedPass, NamedTicket, Naming, Stand};
+use sw_shared::{NamedPass, NamedSeat, NamedTicket, Naming, Stand};
 use sw_spawn::Went;
 use sw_tasker::Tasker;
 use sw_worker::Worker;

@@ -17,4 +17,4 @@ pub use door::{AtDoor, DoorPlayer};
 pub use hands::{TaskerPlayer, Tasking, WorkerPlayer, Working};
 pub use lines::Lines;
 pub use listening::Listening;
-pub use reactor::{ReactorPlayer, Reacting};
+pub use reactor::{Reacting, ReactorPlayer};

@@ -76,12 +76,7 @@ impl<M: Drop> Lines<M> {
 }
 
 /// Pushes a message to the actor of a number.
-fn push_among<M: Drop, R: Wait>(
-    rt: &R,
-    senders: &mut Vec<Sender<M>>,
-    n: u32,
-    message: M,
-) -> Got<M>
+fn push_among<M: Drop, R: Wait>(rt: &R, senders: &mut Vec<Sender<M>>, n: u32, message: M) -> Got<M>
     ensures { PushesAt senders.old.items n message result senders.new.items }
 {
     match senders.get_mut(n as usize) {

@@ -20,7 +20,7 @@ use std::sync::Wait;
 use sw_data::{Got, Msg};
 use sw_link::{Ends, Link};
 use sw_reactor::Reactor;
-use sw_shared::{NamedSeat, NamedPass, NamedTicket, Naming};
+use sw_shared::{NamedPass, NamedSeat, NamedTicket, Naming};
 use sw_spawn::Went;
 
 /// A reactor with its pass of the session words, its seat at the board, its ends, and its ends of the pipes.

@@ -3,9 +3,13 @@
 
 mod assembling;
 mod bellboard;
+mod counting;
+mod finishing;
+mod making;
 mod mesh;
 mod parts;
 mod plan;
+mod players;
 mod server;
 mod sorting;
 mod stopped;

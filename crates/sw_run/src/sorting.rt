@@ -23,10 +23,7 @@ pub(crate) fn sort<
     E: Ends<N::Link> + Drop,
     H: Handler + Drop,
     T: Handler + Drop,
->(
-    alloc: Global,
-    players: Vec<Actor<N, J, E, H, T>>,
-) -> Result<Crew<N, J, E, H, T>, OutOfMemory>
+>(alloc: Global, players: Vec<Actor<N, J, E, H, T>>) -> Result<Crew<N, J, E, H, T>, OutOfMemory>
 where
     N::Link: Drop,
 {

@@ -5,4 +5,4 @@ mod memory;
 #[cfg(test)]
 mod tests;
 
-pub use memory::{Ran, echo, link};
+pub use memory::{Ran, echo, echo_over, link};

@@ -38,7 +38,7 @@ fn handlers(alloc: Global, count: u32) -> Result<Vec<Logged<Echo>>, OutOfMemory>
     Ok(all)
 }
 
-/// Runs a server with Echo over these links.
+/// Runs a server with Echo over these links and an end.
 pub fn echo<P: Spawner, R: Threads + Wait + Copy + Send + 'static>(
     rt: R,
     alloc: Global,
@@ -47,6 +47,17 @@ pub fn echo<P: Spawner, R: Threads + Wait + Copy + Send + 'static>(
     spawner: &mut P,
 ) -> Result<Ran, OutOfMemory> {
     let net = MemoryNet::new(links, true, None);
+    echo_over(rt, alloc, settings, net, spawner)
+}
+
+/// Runs a server with Echo over this net.
+pub fn echo_over<P: Spawner, R: Threads + Wait + Copy + Send + 'static>(
+    rt: R,
+    alloc: Global,
+    settings: &Settings,
+    net: MemoryNet,
+    spawner: &mut P,
+) -> Result<Ran, OutOfMemory> {
     let mut ends = Vec::new(alloc);
     for _ in 0..settings.reactor_num() + 1 {
         ends.push(Keeper::new(alloc))?;
@@ -56,7 +67,5 @@ pub fn echo<P: Spawner, R: Threads + Wait + Copy + Send + 'static>(
         workers.push(handlers(alloc, settings.generation_num())?)?;
     }
     let taskers = handlers(alloc, settings.task_worker_num())?;
-    Ok(run_server(
-        rt, alloc, settings, net, ends, workers, taskers, spawner,
-    ))
+    Ok(run_server(rt, alloc, settings, net, ends, workers, taskers, spawner))
 }

@@ -195,10 +195,7 @@ fn refused<K: Sink>(alloc: Global, sink: &mut K, status: ServeStatus) -> ServeSt
 }
 
 /// The line of a fault, and its status.
-fn refusal_text(
-    alloc: Global,
-    status: ServeStatus,
-) -> Result<(ServeStatus, Octets), OutOfMemory> {
+fn refusal_text(alloc: Global, status: ServeStatus) -> Result<(ServeStatus, Octets), OutOfMemory> {
     match status {
         ServeStatus::BadLine(n) => {
             let text = Refusal::Line(n).text(alloc)?;

@@ -1,3 +1,4 @@
 pub mod Alls
+pub mod Endings
 pub mod Passes
-pub mod Seats
+pub mod Sitting

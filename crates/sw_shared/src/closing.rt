@@ -22,10 +22,8 @@ pub enum Ending {
     Short,
 }
 
-fn passes_of<J: Naming>(
-    alloc: Global,
-    passes: Vec<NamedPass<J>>,
-) -> Result<Vec<Pass>, OutOfMemory>
+#[tactic(auto, using(crate::proofs::Alls::more))]
+fn passes_of<J: Naming>(alloc: Global, passes: Vec<NamedPass<J>>) -> Result<Vec<Pass>, OutOfMemory>
     ensures same { IfOk result (λ ps. ps.items ≡ passes.items) }
     ensures book { IfOk result (λ ps. All (λ p. p.book ≡ J.book) ps.items) }
 {
@@ -52,6 +50,7 @@ pub fn close_words<J: Naming>(
     }
 }
 
+#[tactic(auto, using(crate::proofs::Alls::more))]
 fn seats_of<J: Naming>(alloc: Global, seats: Vec<NamedSeat<J>>) -> Result<Vec<Seat>, OutOfMemory>
     ensures same { IfOk result (λ ss. ss.items ≡ seats.items) }
     ensures board { IfOk result (λ ss. All (λ s. s.board ≡ J.board) ss.items) }

@@ -55,32 +55,32 @@ impl<J: Naming> Board for NamedSeat<J> {
 
     ghost goes = { SeatGoes };
 
-    #[tactic(auto, using(crate::proofs::Seats::went))]
+    #[tactic(auto, using(crate::proofs::Sitting::went))]
     fn mark(&mut self, idle: bool) {
         self.seat.mark(idle);
     }
 
-    #[tactic(auto, using(crate::proofs::Seats::found))]
+    #[tactic(auto, using(crate::proofs::Sitting::found))]
     fn idle(&mut self, crew: Crew, from: u32) -> Option<u32> {
         self.seat.idle(crew, from)
     }
 
-    #[tactic(auto, using(crate::proofs::Seats::went))]
+    #[tactic(auto, using(crate::proofs::Sitting::went))]
     fn stop(&mut self) {
         self.seat.stop();
     }
 
-    #[tactic(auto, using(crate::proofs::Seats::went))]
+    #[tactic(auto, using(crate::proofs::Sitting::went))]
     fn stopped(&mut self) -> bool {
         self.seat.stopped()
     }
 
-    #[tactic(auto, using(crate::proofs::Seats::went))]
+    #[tactic(auto, using(crate::proofs::Sitting::went))]
     fn add(&mut self, c: Counter) {
         self.seat.add(c);
     }
 
-    #[tactic(auto, using(crate::proofs::Seats::summed))]
+    #[tactic(auto, using(crate::proofs::Sitting::summed))]
     fn sum(&mut self, c: Counter) -> u64 {
         self.seat.sum(c)
     }

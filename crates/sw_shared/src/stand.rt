@@ -27,6 +27,11 @@ impl<J: Naming> Model for Stand<J> {
 
     ghost Value = { SeatView };
 
+    ghost use Rattle.std.specs.Coded.{codes};
+    ghost use Rattle.std.specs.FinMap.{code};
+
+    ghost coded = { Prim.hlevel (codes, code) };
+
     ghost view = { λ s. s.seat };
 
     ghost invariant = { λ s. (arc_value s.table ≡ J.table) × IsReady J.table 1 s.seat };

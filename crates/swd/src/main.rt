@@ -1,13 +1,17 @@
 //! The program: makes the real source, sink and net, hands them and the arguments to the top calls, and ends with their number.
 #![tactic(auto)]
 
+use std::alloc::Global;
+use std::net::Net as Sockets;
 use std::process::ExitCode;
+use std::sync::Wait;
+use std::thread::Threads;
 use std::{env, io};
-use sw_causes::{ReaderSource, WriterSink};
+use sw_causes::{ReaderSource, Sink, Source, WriterSink};
 use sw_link::Dropper;
 use sw_mio::MioNet;
 use sw_serve::{Options, options_of, serve};
-use sw_spawn::Threads;
+use sw_spawn::Threads as EachOnAThread;
 use sw_top::command_line;
 
 /// What is printed on standard error beside `fault usage`.
@@ -20,6 +24,9 @@ const USAGE: &str = "usage: swd drill     reads a schedule, plays it and prints 
 
 /// The exit status of words that are no command.
 const IS_USAGE: u8 = 2;
+
+/// The exit status where memory ran out.
+const NO_MEMORY: u8 = 5;
 
 /// The port that is listened on where none is named.
 const PORT: u64 = 9501;
@@ -53,35 +60,30 @@ fn serves(arguments: &Option<Vec<String>>) -> Option<Options> {
     }
 }
 
-/// Serves on a port of 127.0.0.1.
-fn serve_on(rt: HostRuntime, options: Options) -> u8 {
+/// Serves on a port of 127.0.0.1, and answers the number that the program ends with.
+fn serve_on<S: Source, K: Sink, R: Threads + Wait + Sockets + Copy + Drop + Send + 'static>(
+    rt: R,
+    alloc: Global,
+    options: Options,
+    source: &mut S,
+    sink: &mut K,
+) -> u8 {
     let port = options.port.unwrap_or(PORT) as u16;
     let net = MioNet::new(rt, port, options.accept);
-    let Ok(ends) = vec![in rt.alloc(); Dropper::new(); ENDS] else {
-        return 5;
+    let Ok(ends) = vec![in alloc; Dropper::new(); ENDS] else {
+        return NO_MEMORY;
     };
-    let mut source = ReaderSource::new(rt.reader());
-    let mut sink = WriterSink::new(io::writer(&rt));
-    let status = serve(
-        rt,
-        rt.alloc(),
-        &mut source,
-        &mut sink,
-        net,
-        ends,
-        &mut Threads {},
-    );
-    status.number()
+    serve(rt, alloc, source, sink, net, ends, &mut EachOnAThread {}).number()
 }
 
 fn main(rt: HostRuntime) -> ExitCode {
-    let arguments = arguments(&rt).ok();
-    if let Some(options) = serves(&arguments) {
-        return ExitCode::from(serve_on(rt, options));
-    }
     let mut source = ReaderSource::new(rt.reader());
     let mut sink = WriterSink::new(io::writer(&rt));
-    let status = command_line(rt.alloc(), arguments, &mut source, &mut sink);
+    let arguments = arguments(&rt).ok();
+    let status = match serves(&arguments) {
+        Some(options) => serve_on(rt, rt.alloc(), options, &mut source, &mut sink),
+        None => command_line(rt.alloc(), arguments, &mut source, &mut sink),
+    };
     if status == IS_USAGE {
         let _ = eprintln!(rt; "{USAGE}");
     }

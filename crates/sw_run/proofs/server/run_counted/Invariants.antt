@@ -3,4 +3,4 @@ use Rattle.std.specs.Arc.{arc_value}
 use Rattle.sw_run.proofs.server.run_counted.Given as goal
 
 abbrev pub ghosts-run_named : goal.ghosts-run_named
-ghosts-run_named g a = record { book = a.clerk.book; board = board_of a.seats.items; table = arc_value a.table; heard = g.N.faults a.given.net }
+ghosts-run_named g a = record { book = a.clerk.book; board = board_of a.seats.items; table = arc_value a.table; heard = g.N.Net.faults a.given.net }
