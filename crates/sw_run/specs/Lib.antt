@@ -1,4 +1,0 @@
-pub mod Boards
-pub mod Plans
-pub mod Counts
-pub mod Ran

@@ -1,4 +1,0 @@
-pub mod Statuses
-pub mod Counting
-pub mod Following
-pub mod Words
