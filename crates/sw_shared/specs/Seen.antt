@@ -9,6 +9,8 @@ use Rattle.sw_table_join.specs.Tables.{SharedNow, SeatView}
 use Rattle.sw_table_join.specs.Answers.{Answered, Refused}
 
 -- a call by a seat at this Table has a place, or is refused
-abbrev pub stand_gives : SharedNow → SeatView → Call → SeatView → List Value → List Value → Result Placed CallFault → Type 0
+abbrev pub stand_gives : SharedNow → SeatView → Call → SeatView → List Value → List Value → Result Placed CallFault
+    → Type 0
 stand_gives table s call t row new result =
-    MatchResult result (λ placed. Answered table s t call row new placed.at placed.reply) (λ fault. Refused table s t call row new fault)
+    MatchResult result (λ placed. Answered table s t call row new placed.at placed.reply)
+    (λ fault. Refused table s t call row new fault)

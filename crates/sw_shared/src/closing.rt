@@ -34,8 +34,8 @@ fn passes_of<J: Naming>(alloc: Global, passes: Vec<NamedPass<J>>) -> Result<Vec<
     Ok(all)
 }
 
-/// Ends session words, given their clerk and all their passes in any order, and tells what the calls of all of them have to do with
-/// one another. Short comes exactly where not as many passes are given as were made.
+/// Ends session words, given their clerk and all their passes in any order, and tells what the calls of all of them
+/// have to do with one another. Short comes exactly where not as many passes are given as were made.
 pub fn close_words<J: Naming>(
     alloc: Global,
     clerk: NamedClerk<J>,
@@ -62,8 +62,8 @@ fn seats_of<J: Naming>(alloc: Global, seats: Vec<NamedSeat<J>>) -> Result<Vec<Se
     Ok(all)
 }
 
-/// Ends a board, given all its seats, at least one, and tells what their steps have to do with one another. Short comes exactly where
-/// not as many seats are given as the board has.
+/// Ends a board, given all its seats, at least one, and tells what their steps have to do with one another. Short comes
+/// exactly where not as many seats are given as the board has.
 pub fn close_board<J: Naming>(
     alloc: Global,
     seats: Vec<NamedSeat<J>>,

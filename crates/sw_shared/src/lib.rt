@@ -1,5 +1,6 @@
-//! The ports as threads share them, in the forms that an actor's thread holds: session words, board and Table whose type names of which
-//! server they are, so that a ticket that comes through a pipe is known to be of the words that it is released in.
+//! The ports as threads share them, in the forms that an actor's thread holds: session words, board and Table whose
+//! type names of which server they are, so that a ticket that comes through a pipe is known to be of the words that it
+//! is released in.
 #![tactic(auto)]
 
 mod closing;

@@ -2,8 +2,8 @@
 
 use std::marker::Brand;
 
-/// Names a server's session words, its board and its Table, so that what is of them is known by its type, also where it came through
-/// a pipe. No value of such a type is made.
+/// Names a server's session words, its board and its Table, so that what is of them is known by its type, also where it
+/// came through a pipe. No value of such a type is made.
 pub trait Naming {
     ghost use Rattle.std.specs.Prelude.{ℕ};
     ghost use Rattle.atomic_table.specs.Seated.{TableId};

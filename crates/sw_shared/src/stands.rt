@@ -64,8 +64,8 @@ impl<J: Naming> Stands<J> {
         Ok(Stand::new(table, seat))
     }
 
-    /// Ends the Table, given all its stands: its rows and the number of its calls, as all calls leave them. None comes exactly where
-    /// not as many stands are given as were made; the seat that the others began with is counted, too.
+    /// Ends the Table, given all its stands: its rows and the number of its calls, as all calls leave them. None comes
+    /// exactly where not as many stands are given as were made; the seat that the others began with is counted, too.
     pub fn close(self, alloc: Global, stands: Vec<Stand<J>>) -> Result<Option<Plain>, OutOfMemory>
         ensures { IfOk result (λ plain. Rows J.table self stands.items plain) }
     {
