@@ -1,0 +1,4 @@
+pub mod Alls
+pub mod Endings
+pub mod Passes
+pub mod Sitting

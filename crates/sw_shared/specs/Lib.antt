@@ -1,0 +1,4 @@
+pub mod Nothing
+pub mod Ends
+pub mod Passes
+pub mod Seen
