@@ -1,9 +1,9 @@
 //! The cases one by one, each by its kind.
 
+use crate::case::Case;
 use crate::{http, script};
 use std::alloc::Global;
 use sw_base::OutOfMemory;
-use sw_case_texts::Case;
 
 fn put_case(alloc: Global, out: &mut String, case: &Case) -> Result<(), OutOfMemory> {
     if case.name.is_empty() {

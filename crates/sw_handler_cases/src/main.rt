@@ -3,6 +3,8 @@
 #![tactic(auto)]
 
 mod answers;
+mod case;
+mod events;
 mod http;
 mod kinds;
 mod script;

@@ -1,4 +1,4 @@
-//! Sessions, bytes and events as texts, read.
+//! Events as texts, read.
 
 use std::alloc::Global;
 use sw_base::{Octets, OutOfMemory, Session};
@@ -10,13 +10,12 @@ pub fn small(text: &[u8]) -> Option<u32> {
     Some(number_within(text, 0, 4_294_967_295)? as u32)
 }
 
-/// A session by its number.
-pub fn session(text: &[u8]) -> Option<Session> {
+fn session(text: &[u8]) -> Option<Session> {
     Session::new(small(text)?)
 }
 
 /// Bytes in digits, or a dash for none.
-pub fn octets(alloc: Global, text: &[u8]) -> Result<Option<Octets>, OutOfMemory> {
+fn octets(alloc: Global, text: &[u8]) -> Result<Option<Octets>, OutOfMemory> {
     if text == b"-".as_slice() {
         return Ok(Some(Octets::new(alloc)));
     }
