@@ -21,6 +21,14 @@ fn schema_of(alloc: Global, text: &[u8]) -> Result<Option<Schema>, OutOfMemory> 
     }
 }
 
+/// The number in `row N`.
+fn row_of(text: &[u8]) -> Option<u64> {
+    match cut(text, b' ') {
+        (b"row", Some(digits)) => number(digits),
+        _ => None,
+    }
+}
+
 /// What a line comes to while the shared form is open.
 fn put_line(
     alloc: Global,
@@ -33,7 +41,10 @@ fn put_line(
 {
     match cut(text, b' ') {
         (b"hold", Some(b"pool")) => forms.hold_pool(out),
-        (b"hold", Some(row)) => forms.hold_row(out, number(row).unwrap_or(0)),
+        (b"hold", Some(text)) => match row_of(text) {
+            Some(row) => forms.hold_row(out, row),
+            None => Ok(out.push_str("no row\n")?),
+        },
         (b"give", None) => forms.give(out),
         (b"b", Some(text)) => put_call(alloc, out, forms, text, true),
         _ => put_call(alloc, out, forms, text, false),
