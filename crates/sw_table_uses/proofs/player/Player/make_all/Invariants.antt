@@ -1,5 +1,0 @@
-use Rattle.sw_table_uses.specs.Players.{IsPlayer}
-use Rattle.sw_table_uses.proofs.player.Player.make_all.Given as goal
-
-abbrev pub invariant-loop-call : goal.invariant-loop-call
-invariant-loop-call g l = IsPlayer l.table l.self
