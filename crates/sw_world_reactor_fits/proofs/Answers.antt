@@ -90,9 +90,9 @@ dids_answer puts t legal n lt some [] p b b2 o o2 sb so turn few named there one
     record { answers = tt; book = subst (λ (w : Words). BookStands t w p) (sym e) sb; board = subst (λ (w : PlainWords). BoardStands t w p) (sym f) so; turn = ap (λ (w : PlainWords). w.turn) f }
 dids_answer puts t legal n lt some (Looks s x ∷ ds) p b b2 o o2 sb so turn few named there one (b1, (o1, ((look, ((found, (w_is, b_is), ans), seen, o_is)), rest))) =
     first_answered t legal p n (Looks s x) ds b2 o o1 o2
-      (subst (λ (k : Seen). Answers t legal p (Reactor n) (Looks s k)) (sym (ap book.seen_of (ans ∙ ap (look_answer s) w_is)) ∙ sym (seen_same look) ∙ seen) (look_fits t legal (Reactor n) b p sb some s named.0))
-      (ap (λ (w : PlainWords). w.turn) o_is)
-      (dids_answer puts t legal n lt some ds p b1 b2 o1 o2 (subst (λ (w : Words). BookStands t w p) (sym b_is) sb) (subst (λ (w : PlainWords). BoardStands t w p) (sym o_is) so) (ap (λ (w : PlainWords). w.turn) o_is ∙ turn) few named.1 there one rest)
+    (subst (λ (k : Seen). Answers t legal p (Reactor n) (Looks s k)) (sym (ap book.seen_of (ans ∙ ap (look_answer s) w_is)) ∙ sym (seen_same look) ∙ seen) (look_fits t legal (Reactor n) b p sb some s named.0))
+    (ap (λ (w : PlainWords). w.turn) o_is)
+    (dids_answer puts t legal n lt some ds p b1 b2 o1 o2 (subst (λ (w : Words). BookStands t w p) (sym b_is) sb) (subst (λ (w : PlainWords). BoardStands t w p) (sym o_is) so) (ap (λ (w : PlainWords). w.turn) o_is ∙ turn) few named.1 there one rest)
 dids_answer puts t legal n lt some (Frees s v ∷ ds) p b b2 o o2 sb so turn few named there one (b1, (o1, ((k, (k_is, (v_is, b_is), o_is)), rest))) =
     (let own : (word_of b s).number ≡ s = word_number t b p sb some s ∙ there.0 in
     let f = release_fits t legal (Reactor n) b p sb some s named.0 own in
@@ -100,16 +100,16 @@ dids_answer puts t legal n lt some (Frees s v ∷ ds) p b b2 o o2 sb so turn few
     let after : BookStands t b1 (ported t p (Reactor n) (Frees s v)) = subst (λ (w : Words). BookStands t w (ported t p (Reactor n) (Frees s v))) (sym (b_is ∙ ap (λ (j : ℕ). with_word b j free) k_is)) (record { slots = f.1.slots; last = f.1.last }) in
     let left : length (collect free_in ds) ≡ 0 = (let q : suc (length (collect free_in ds)) ≤ 1 = one in omega (arith, q)) in
     first_answered t legal p n (Frees s v) ds b2 o o1 o2
-      (subst (λ (j : ℕ). Answers t legal p (Reactor n) (Frees s j)) v_same f.0)
-      (ap (λ (w : PlainWords). w.turn) o_is)
-      (dids_answer puts t legal n lt some ds (ported t p (Reactor n) (Frees s v)) b1 b2 o1 o2 after
-        (subst (λ (w : PlainWords). BoardStands t w (ported t p (Reactor n) (Frees s v))) (sym o_is) (board_words t o p (set p.words (s % t.max_conn) (0, 0)) so))
-        (ap (λ (w : PlainWords). w.turn) o_is ∙ turn) few named.1 (none_freed ds (λ r. ((ported t p (Reactor n) (Frees s v)).words (r % t.max_conn)).0 ≡ r) left) (omega (arith, left)) rest))
+    (subst (λ (j : ℕ). Answers t legal p (Reactor n) (Frees s j)) v_same f.0)
+    (ap (λ (w : PlainWords). w.turn) o_is)
+    (dids_answer puts t legal n lt some ds (ported t p (Reactor n) (Frees s v)) b1 b2 o1 o2 after
+    (subst (λ (w : PlainWords). BoardStands t w (ported t p (Reactor n) (Frees s v))) (sym o_is) (board_words t o p (set p.words (s % t.max_conn) (0, 0)) so))
+    (ap (λ (w : PlainWords). w.turn) o_is ∙ turn) few named.1 (none_freed ds (λ r. ((ported t p (Reactor n) (Frees s v)).words (r % t.max_conn)).0 ≡ r) left) (omega (arith, left)) rest))
 dids_answer puts t legal n lt some (Idles false k x ∷ ds) p b b2 o o2 sb so turn few named there one (b1, (o1, ((finds, b_is), rest))) =
     (let f = idle_fits t legal o o1 p (Reactor n) Workers k x so (subst (λ (w : ℕ). k < w) (sym so.workers) named.0) finds in
     let e : o1.turn ≡ o.turn = found_turn k x o o1 finds in
     first_answered t legal p n (Idles false k x) ds b2 o o1 o2 f.0 e
-      (dids_answer puts t legal n lt some ds p b1 b2 o1 o2 (subst (λ (w : Words). BookStands t w p) (sym b_is) sb) f.1 (e ∙ turn) few named.1 there one rest))
+    (dids_answer puts t legal n lt some ds p b1 b2 o1 o2 (subst (λ (w : Words). BookStands t w p) (sym b_is) sb) f.1 (e ∙ turn) few named.1 there one rest))
   where
     found_turn : (k : ℕ) (x : Option ℕ) (b d : PlainWords) → FindsIdle PlainGoes b.sizes Workers k b x d → d.turn ≡ b.turn
     found_turn k None b d z = goes_turn (found_busy 0 b.sizes.workers k b.sizes.workers) b d z
@@ -119,11 +119,11 @@ dids_answer puts t legal n lt some (SeesStop v ∷ ds) p b b2 o o2 sb so turn fe
     (let f = stopped_fits t legal o o1 p (Reactor n) v so goes in
     let e : o1.turn ≡ o.turn = goes_turn (SawStop v ∷ []) o o1 goes in
     first_answered t legal p n (SeesStop v) ds b2 o o1 o2 f.0 e
-      (dids_answer puts t legal n lt some ds p b1 b2 o1 o2 (subst (λ (w : Words). BookStands t w p) (sym b_is) sb) f.1 (e ∙ turn) few named.1 there one rest))
+    (dids_answer puts t legal n lt some ds p b1 b2 o1 o2 (subst (λ (w : Words). BookStands t w p) (sym b_is) sb) f.1 (e ∙ turn) few named.1 there one rest))
 dids_answer puts t legal n lt some (Adds c ∷ ds) p b b2 o o2 sb so turn few named there one (b1, (o1, ((goes, b_is), rest))) =
     (let e : o1.turn ≡ o.turn = goes_turn (Added c ∷ []) o o1 goes in
     first_answered t legal p n (Adds c) ds b2 o o1 o2 tt e
-      (dids_answer puts t legal n lt some ds (ported t p (Reactor n) (Adds c)) b1 b2 o1 o2 (subst (λ (w : Words). BookStands t w (ported t p (Reactor n) (Adds c))) (sym b_is) (book_counts t b p (added p.counts (Reactor n) c) sb)) (add_fits t o o1 p (Reactor n) c so lt turn few goes) (e ∙ turn) (added_few p (Reactor n) c few) named.1 there one rest))
+    (dids_answer puts t legal n lt some ds (ported t p (Reactor n) (Adds c)) b1 b2 o1 o2 (subst (λ (w : Words). BookStands t w (ported t p (Reactor n) (Adds c))) (sym b_is) (book_counts t b p (added p.counts (Reactor n) c) sb)) (add_fits t o o1 p (Reactor n) c so lt turn few goes) (e ∙ turn) (added_few p (Reactor n) c few) named.1 there one rest))
 dids_answer puts t legal n lt some (Accepts ip c ∷ ds) p b b2 o o2 sb so turn few named there one (b1, (o1, (z, rest))) = absurd z
 dids_answer puts t legal n lt some (NoLink ∷ ds) p b b2 o o2 sb so turn few named there one (b1, (o1, (z, rest))) = absurd z
 dids_answer puts t legal n lt some (NetOver ∷ ds) p b b2 o o2 sb so turn few named there one (b1, (o1, (z, rest))) = absurd z

@@ -59,8 +59,8 @@ pub record Lists (took : Mail) (s : Table) : Type 0 where
 pub settled_lists : (t : Terms) → 0 < t.worker_num → IsFit t.framing → (n : ℕ) → n < t.reactor_num → (s : Table) (got : TableGot Message) (d : Diary) (word : ℕ → ℕ) → AllTold word d.dids → Behind t s got d → IsFair t n d.took → (starved : Bool) → Lists d.took (settled t starved got s)
 settled_lists t some fit n lt s got d word told b fair starved =
     (let q : Quiet t (AimOf t) (EndOf t) n d.took d.pushed (settled t starved got s) =
-       call_quiet t (AimOf t) (EndOf t) n s b.took b.pushed d.took d.pushed got b.call fair
-       (runs_quiet t (AimOf t) (EndOf t) (mode_laws t) word some (fit_grows t fit) n lt b.took b.pushed s (b.ran.runs word told).run (call_fair t n s b.took b.pushed d.took d.pushed got b.call fair)) starved in
+    call_quiet t (AimOf t) (EndOf t) n s b.took b.pushed d.took d.pushed got b.call fair
+    (runs_quiet t (AimOf t) (EndOf t) (mode_laws t) word some (fit_grows t fit) n lt b.took b.pushed s (b.ran.runs word told).run (call_fair t n s b.took b.pushed d.took d.pushed got b.call fair)) starved in
     record { came = q.came; distinct = q.distinct })
 
 pub few_conns : (took : Mail) (s : Table) → Lists took s → Each (λ k. (¬ (k ≡ 0)) × (k < 2 ^ 32)) (collect fresh_in (bare took)) → Rises (collect fresh_in (bare took)) → length (all s) < 2 ^ 64
