@@ -22,7 +22,7 @@ pub record DoorState : Type 0 where
 
 -- at the start
 abbrev pub new_door : DoorState
-new_door = record { ending = false; accepts = false; given = 0; to = Reactor 0 }
+new_door = record { ending = false; accepts = false; given = 0; to = Door }
 
 -- its turn, when nothing is asked again: turns of two kinds alternate, until it ends
 pub data DoorGoes (t : Terms) (s : DoorState) (dids : List Did) (u : DoorState) (ask : Ask) : Type 0 where

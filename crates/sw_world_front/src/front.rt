@@ -97,13 +97,9 @@ impl Front {
         ensures sizes { board.new.sizes ≡ board.old.sizes }
     {
         let again = is_full(&got);
-        let ask = self.door.turn(
-            got,
-            &mut self.net,
-            book,
-            board,
-            &mut self.refusals,
-        );
+        let ask = self
+            .door
+            .turn(got, &mut self.net, book, board, &mut self.refusals);
         self.note(again, &ask);
         ask
     }

@@ -1,3 +1,0 @@
-pub mod Asked
-pub mod Rows
-pub mod Links
