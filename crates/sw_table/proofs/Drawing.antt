@@ -66,7 +66,7 @@ drew_of : (t : SharedNow) (call : Call) (old new : SeatView) (at n : ℕ) → Dr
 drew_of t call old new at n d of = (ap (λ (w : SeatView). w.id) d.now ∙ of.0, ap (λ (w : SeatView). w.start) d.now ∙ of.1)
 
 -- an answer for a seat that held locks, as one for the seat without them
-answered_free : (t : SharedNow) (old new : SeatView) (call : Call) (row row' : List Value) (at : ℕ) (reply : Reply) → Answered t old new call row row' at reply → Answered t (free old) new call row row' at reply
+pub answered_free : (t : SharedNow) (old new : SeatView) (call : Call) (row row' : List Value) (at : ℕ) (reply : Reply) → Answered t old new call row row' at reply → Answered t (free old) new call row row' at reply
 answered_free t old new call row row' at reply a = record {
   between = a.between;
   seen = a.seen;

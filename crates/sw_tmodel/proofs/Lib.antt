@@ -4,3 +4,4 @@ pub mod StoreSteps
 pub mod StoredLaws
 pub mod PlaceLaws
 pub mod FillSteps
+pub mod RowOrder

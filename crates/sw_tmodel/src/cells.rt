@@ -7,9 +7,10 @@ ghost use Rattle.sw_column.specs.Fit.{pairs_fault, at_column};
 ghost use Rattle.sw_column.specs.Values.{HasKinds, IsRow, blank};
 ghost use Rattle.sw_table_laws.specs.Rows.{with_pairs, with_value, number_of, number_in};
 ghost use Rattle.sw_tmodel.specs.PlainRows.{AreCells, IsPlaceFor, cell_with};
-ghost use Rattle.std.specs.Prelude.{Some};
+ghost use Rattle.std.specs.Prelude.{Some, IfOk};
 
-use sw_base::{Pairs, Value};
+use std::alloc::Global;
+use sw_base::{Cells, Octets, OutOfMemory, Pairs, Value};
 use sw_column::{Cell, RowBuf, Schema};
 
 /// 0 and empty texts in all cells.
@@ -130,5 +131,25 @@ fn show_cell(cell: &Cell, at: usize, row: &mut RowBuf)
     match cell {
         Cell::Int(n) => row.set_int(at, *n),
         Cell::Text(text) => row.set_text(at, text.text()),
+    }
+}
+
+/// The values of the cells, in a list of their own.
+pub fn values(alloc: Global, cells: &[Cell]) -> Result<Cells, OutOfMemory>
+    ensures { IfOk result (λ vs. vs ≡ map cell_value cells.now) }
+{
+    let mut values = Cells::new(alloc);
+    for cell in cells {
+        values.push(value(alloc, cell)?)?;
+    }
+    Ok(values)
+}
+
+fn value(alloc: Global, cell: &Cell) -> Result<Value, OutOfMemory>
+    ensures { IfOk result (λ v. v ≡ cell_value cell.now) }
+{
+    match cell {
+        Cell::Int(n) => Ok(Value::Int(*n)),
+        Cell::Text(text) => Ok(Value::Text(Octets::of(Vec::from_slice(alloc, text.text())?))),
     }
 }

@@ -4,10 +4,14 @@
 
 mod buckets;
 mod cells;
+mod dump_row;
+mod dumping;
 mod plain;
 mod plain_row;
 mod rows;
 mod steps;
 mod store;
 
+pub use dump_row::DumpRow;
+pub use dumping::sort;
 pub use plain::{Plain, raised};

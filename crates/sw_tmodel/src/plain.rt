@@ -5,7 +5,9 @@ ghost use Rattle.sw_column.specs.Values.{HasKinds, IsRow};
 ghost use Rattle.sw_table_laws.specs.Sizes.{raised, raised_by};
 ghost use Rattle.sw_table_laws.specs.Table.{has_room};
 ghost use Rattle.sw_tmodel.specs.Plain.{IsCall, shape_of};
+ghost use Rattle.sw_tmodel.specs.Dumps.{AreRowsOf};
 
+use crate::dump_row::DumpRow;
 use crate::steps::step;
 use crate::store::Store;
 use std::alloc::Global;
@@ -18,6 +20,7 @@ use sw_port_shelf::{Placed, Shelf};
 #[derive(Drop, Debug)]
 pub struct Plain {
     store: Store,
+    size: u32,
     percent: u32,
     last_call: u64,
     calls: u64,
@@ -39,7 +42,7 @@ impl Model for Plain {
 
     ghost view = { λ a. record { columns = a.store.shape.columns; size = a.store.shape.size; percent = a.percent; last_call = a.last_call; calls = a.calls; state = state_of a.store.entries } };
 
-    ghost invariant = { λ a. (a.store.shape.pool ≡ pool_of a.store.shape.size a.percent) × (a.calls ≤ a.last_call) × (a.last_call ≤ 8796093022207) };
+    ghost invariant = { λ a. (a.size ≡ a.store.shape.size) × (a.store.shape.pool ≡ pool_of a.store.shape.size a.percent) × (a.calls ≤ a.last_call) × (a.last_call ≤ 8796093022207) };
 }
 
 impl Plain {
@@ -63,6 +66,7 @@ impl Plain {
         let store = Store::make(alloc, schema, size as usize, pool)?;
         Ok(Plain {
             store,
+            size,
             percent,
             last_call,
             calls: 0,
@@ -115,6 +119,27 @@ impl Plain {
         ensures { result.now ≡ self.now.columns }
     {
         self.store.schema()
+    }
+
+    /// How many buckets there are: the size as it was raised.
+    pub fn size(&self) -> u32
+        ensures { result ≡ self.now.size }
+    {
+        self.size
+    }
+
+    /// How many rows the pool has for each hundred buckets.
+    pub fn percent(&self) -> u32
+        ensures { result ≡ self.now.percent }
+    {
+        self.percent
+    }
+
+    /// Copies of all rows, in byte order of keys.
+    pub fn rows(&self) -> Result<Vec<DumpRow>, OutOfMemory>
+        ensures { IfOk result (λ v. AreRowsOf self.now.state v.items) }
+    {
+        self.store.rows()
     }
 
     /// How many calls had a place.

@@ -9,7 +9,11 @@ ghost use Rattle.sw_column.specs.Fit.{pairs_fault, at_column};
 ghost use Rattle.sw_column.specs.Values.{blank, HasKinds, IsRow};
 ghost use Rattle.sw_table_laws.specs.Rows.{with_pairs, with_value, number_of};
 ghost use Rattle.sw_tmodel.specs.PlainRows.{IsAt, row_at, with_row};
+ghost use Rattle.sw_tmodel.specs.Dumps.{pair_of};
+ghost use Rattle.std.specs.Prelude.{map};
 
+use crate::dump_row::DumpRow;
+use crate::dumping::copies;
 use crate::plain_row::{PlainRow, find_row, move_behind, spare_rows};
 use std::alloc::Global;
 use std::marker::Model;
@@ -117,6 +121,13 @@ impl Rows {
         ensures kinds { HasKinds self.now.columns row.new }
     {
         self.rows[at].show(&self.schema, row);
+    }
+
+    /// Copies of all rows, in their order.
+    pub fn copies(&self) -> Result<Vec<DumpRow>, OutOfMemory>
+        ensures { IfOk result (λ v. map pair_of v.items ≡ self.now.entries) }
+    {
+        copies(*self.rows.allocator(), &self.rows[..self.len])
     }
 
     /// One row more at the end, with 0 and empty texts.

@@ -8,8 +8,11 @@ ghost use Rattle.sw_table_laws.specs.Rows.{with_pairs, with_value, number_of};
 ghost use Rattle.sw_table_laws.specs.Table.{bucket, has_room};
 ghost use Rattle.sw_tmodel.specs.PlainRows.{IsAt, key_at, row_at, with_row};
 ghost use Rattle.sw_tmodel.specs.Store.{state_of};
+ghost use Rattle.sw_tmodel.specs.Dumps.{AreRowsOf};
 
 use crate::buckets::Buckets;
+use crate::dump_row::DumpRow;
+use crate::dumping::sort;
 use crate::rows::Rows;
 use std::alloc::Global;
 use std::marker::Model;
@@ -63,6 +66,15 @@ impl Store {
         ensures places { result ≡ length self.now.entries }
     {
         self.rows.len()
+    }
+
+    /// Copies of all rows, in byte order of keys.
+    pub fn rows(&self) -> Result<Vec<DumpRow>, OutOfMemory>
+        ensures { IfOk result (λ v. AreRowsOf (state_of self.now.entries) v.items) }
+    {
+        let mut rows = self.rows.copies()?;
+        sort(&mut rows);
+        Ok(rows)
     }
 
     /// Where the row of a key stands.
