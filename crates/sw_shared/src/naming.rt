@@ -5,7 +5,6 @@ use std::marker::Brand;
 /// Names a server's session words, its board and its Table, so that what is of them is known by its type, also where it
 /// came through a pipe. No value of such a type is made.
 pub trait Naming {
-    ghost use Rattle.std.specs.Prelude.{ℕ};
     ghost use Rattle.atomic_table.specs.Seated.{TableId};
     ghost use Rattle.sw_board.specs.Values.{BoardId};
     ghost use Rattle.sw_table_join.specs.Tables.{SharedNow};
@@ -18,9 +17,6 @@ pub trait Naming {
 
     /// The Table.
     ghost table: { SharedNow };
-
-    /// How often the net had failed before the server ran.
-    ghost heard: { ℕ };
 }
 
 impl Naming for Brand {
@@ -31,6 +27,4 @@ impl Naming for Brand {
     ghost board = { no_board };
 
     ghost table = { no_table };
-
-    ghost heard = { 0 };
 }
