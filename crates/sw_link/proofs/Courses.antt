@@ -1,5 +1,5 @@
 -- A course of pieces stays one with a piece more.
-use Rattle.std.proofs.Common.{◌≡◌, ℕ, ◌<◌, ◌≤◌, List, [], ◌∷◌, ◌++◌, length, drop, arith, length-append}
+use Rattle.std.proofs.Common.{ℕ, ◌<◌, ◌≤◌, List, [], ◌∷◌, ◌++◌, length, drop, arith, length-append}
 use Rattle.std.proofs.lemmas.List.{drop-append-le}
 use Rattle.sw_link.specs.declared.course.Piece.{Piece}
 use Rattle.sw_link.specs.Course.{AreFilled, IsWithin, IsCourse}

@@ -1,7 +1,6 @@
 -- A link in memory: its script, and what each call makes of it.
 use Rattle.std.specs.Prelude.{◌≡◌, ℕ, ◌+◌, ◌-◌, ◌==◌, nat_le, min, max, Bool, true, false, if◌then◌else◌, List, [], ◌∷◌, ◌++◌, length, take, Option, Some, None}
 use Rattle.sw_causes.specs.Causes.{most}
-use Rattle.sw_link.specs.declared.course.Piece.{Piece}
 use Rattle.sw_link.specs.declared.link.LinkWrite.{LinkWrite}
 use Rattle.sw_link.specs.declared.link.LinkWrite.TheVariants as writes
 use Rattle.sw_link.specs.declared.memory_link.MemoryLink.{MemoryLink}

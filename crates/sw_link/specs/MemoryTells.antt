@@ -1,11 +1,11 @@
 -- A link in memory tells what its calls gave and took.
 use Rattle.std.specs.Prelude.{◌≡◌, ℕ, ◌+◌, ◌≤◌, min, Bool, true, false, nat_le, if◌then◌else◌, ◌==◌, List, [], ◌∷◌, ◌++◌, length, Option, Some, None, refl}
 use Rattle.std.proofs.Common.{ap, arith, append-nil}
-use Rattle.sw_causes.specs.Causes.{most, Rises}
+use Rattle.sw_causes.specs.Causes.{most}
 use Rattle.sw_link.specs.declared.link.LinkWrite.{LinkWrite}
 use Rattle.sw_link.specs.declared.link.LinkWrite.TheVariants as writes
 use Rattle.sw_link.specs.declared.memory_link.MemoryLink.{MemoryLink}
-use Rattle.sw_link.specs.Course.{first_need, first_bytes}
+use Rattle.sw_link.specs.Course.{first_need}
 use Rattle.sw_link.specs.Listed.{listed}
 use Rattle.sw_link.specs.Reads.{Read, ReadEnd, ReadFailed, CountsRead, CountsWrite}
 use Rattle.sw_link.specs.Told.{Told, told_by, read_tells, write_tells}

@@ -1,6 +1,6 @@
 -- What a net tells, and what an accept says of it.
-use Rattle.std.specs.Prelude.{◌≡◌, ℕ, ◌+◌, ◌≤◌, ◌==◌, min, Bool, true, false, if◌then◌else◌, List, [], ◌∷◌, Option, Some, None}
-use Rattle.sw_causes.specs.Causes.{Rises, most}
+use Rattle.std.specs.Prelude.{◌≡◌, ℕ, ◌≤◌, Bool, true, false, List, [], ◌∷◌, Option, Some, None}
+use Rattle.sw_causes.specs.Causes.{Rises}
 use Rattle.sw_link.specs.declared.net.Accept.{Accept}
 use Rattle.sw_link.specs.declared.net.Accept.TheVariants as accepts
 use Rattle.sw_link.specs.Told.{Told}

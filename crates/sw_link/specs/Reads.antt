@@ -1,5 +1,5 @@
 -- What reads and writes of a link come to.
-use Rattle.std.specs.Prelude.{◌≡◌, ℕ, ◌<◌, ◌≤◌, List, take}
+use Rattle.std.specs.Prelude.{ℕ, ◌<◌, ◌≤◌, List, take}
 use Rattle.sw_causes.specs.Causes.{Rises}
 use Rattle.sw_link.specs.declared.link.LinkRead.{LinkRead}
 use Rattle.sw_link.specs.declared.link.LinkRead.TheVariants as reads

@@ -94,6 +94,20 @@ impl MemoryLink {
         }
     }
 
+    /// The pieces that were read, in order.
+    pub fn pieces(&self) -> &Pieces
+        ensures { result.now ≡ self.now.pieces }
+    {
+        &self.pieces
+    }
+
+    /// The bytes that were written.
+    pub fn written(&self) -> &Octets
+        ensures { result.now ≡ self.now.written }
+    {
+        &self.written
+    }
+
     fn add_piece(&mut self, bytes: Octets) -> Result<(), OutOfMemory>
         ensures ok { OnOk result (self.new ≡ with_bytes bytes self.old) }
         ensures err { OnErr result (self.new ≡ self.old) }

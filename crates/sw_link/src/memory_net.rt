@@ -1,18 +1,18 @@
 //! A net in memory, which gives the links of a list.
-ghost use Rattle.std.specs.Prelude.{◌≡◌, ◌<◌, ℕ, length, Some, false, OnOk, OnErr};
+ghost use Rattle.std.specs.Prelude.{◌≡◌, [], Some, OnOk, OnErr};
 
 use crate::link::Link;
 use crate::memory_link::MemoryLink;
 use crate::net::{Accept, Net};
 use std::alloc::Global;
+use std::collections::VecDeque;
 use std::marker::Model;
 use sw_base::OutOfMemory;
 
 /// A net that gives the links of a list, in order. The list may grow, and may get an end, at any moment.
 #[derive(Drop, Debug)]
 pub struct MemoryNet {
-    // The next one is the last.
-    links: Vec<(MemoryLink, u32)>,
+    links: VecDeque<(MemoryLink, u32)>,
     end: bool,
     fail_at: Option<u64>,
     accepts: u64,
@@ -21,31 +21,26 @@ pub struct MemoryNet {
 }
 
 impl Model for MemoryNet {
-    ghost use Rattle.std.specs.Prelude.{reverse};
     ghost use Rattle.std.specs.List.{All};
     ghost use Rattle.sw_link.specs.MemoryNets.{Plan, IsNew};
 
     ghost Value = { Plan };
 
-    ghost view = { λ n. record { links = reverse n.links.items; ends = n.end; fail_at = n.fail_at; accepts = n.accepts; faults = n.faults; at_end = n.at_end } };
+    ghost view = { λ n. record { links = n.links.items; ends = n.end; fail_at = n.fail_at; accepts = n.accepts; faults = n.faults; at_end = n.at_end } };
 
     ghost invariant = { λ n. All (λ l. IsNew l.0) n.links.items };
 }
 
 impl MemoryNet {
-    ghost use Rattle.std.specs.List.{All};
     ghost use Rattle.sw_link.specs.MemoryNets.{IsNew, new_net, with_link, closed, is_number};
 
-    /// A net of these links, each with the peer's IPv4 address as a big-endian number, on which nothing was read or written. Behind
-    /// them comes an end, if wanted; the accept of the number `fail_at`, from 0, fails. It takes no memory.
-    pub fn new(links: Vec<(MemoryLink, u32)>, end: bool, fail_at: Option<u64>) -> MemoryNet
-        requires { All (λ l. IsNew l.0) links.items }
-        ensures { result ≡ new_net links.items end fail_at }
+    /// A net without links. Behind those that arrive comes an end, if wanted; the accept of the number `fail_at`, from 0, fails.
+    /// It takes no memory.
+    pub fn new(alloc: Global, end: bool, fail_at: Option<u64>) -> MemoryNet
+        ensures { result ≡ new_net [] end fail_at }
     {
-        let mut links = links;
-        links.reverse();
         MemoryNet {
-            links,
+            links: VecDeque::new(alloc),
             end,
             fail_at,
             accepts: 0,
@@ -54,13 +49,14 @@ impl MemoryNet {
         }
     }
 
-    /// One link more, behind those that are to come. At `OutOfMemory` the net is as before, and the link is dropped.
+    /// One link more, behind those that are to come, with the peer's IPv4 address as a big-endian number; nothing was read or
+    /// written on it. At `OutOfMemory` the net is as before, and the link is dropped.
     pub fn arrive(&mut self, link: MemoryLink, ip: u32) -> Result<(), OutOfMemory>
         requires { IsNew link }
         ensures ok { OnOk result (self.new ≡ with_link link ip self.old) }
         ensures err { OnErr result (self.new ≡ self.old) }
     {
-        self.links.insert(0, (link, ip))?;
+        self.links.push_back((link, ip))?;
         Ok(())
     }
 
@@ -105,7 +101,7 @@ impl Net for MemoryNet {
             self.faults = self.faults.saturating_add(1);
             return Accept::Failed;
         }
-        match self.links.pop() {
+        match self.links.pop_front() {
             Some((link, ip)) => Accept::Got(link, ip),
             None => {
                 if self.end {

@@ -36,7 +36,7 @@ impl Front {
         let links = Links::make(alloc, max_conn)?;
         Ok(Front {
             door: Door::new(max_conn, reactors),
-            net: MemoryNet::new(Vec::new(alloc), false, None),
+            net: MemoryNet::new(alloc, false, None),
             links,
             refusals: Refusals::new(),
         })
