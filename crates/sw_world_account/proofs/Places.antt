@@ -1,10 +1,24 @@
 -- The first link of a session stands at the place that was put first.
-use Rattle.std.proofs.Common.{◌≡◌, ℕ, ◌+◌, ◌==◌, Bool, true, false, List, [], ◌∷◌, ◌++◌, length, map, slice_get, Option, Some, None, refl, ap, ◌∙◌, sym, append_assoc}
+use Rattle.std.proofs.Common.{◌≡◌, ℕ, ◌+◌, ◌<◌, ◌==◌, ◌≢◌, ◌⊎◌, inl, inr, Bool, true, false, cond, if◌then◌else◌, List, [], ◌∷◌, ◌++◌, length, map, Option, Some, None, refl, ap, ◌∙◌, sym, arith}
+use Rattle.std.specs.Prelude.{nat_lt, slice_get}
+use Rattle.std.specs.Ordering.{nat_cmp, is_eq, eq_by_cmp}
+use Rattle.std.specs.declared.cmp.Ordering.TheVariants.{Less, Equal, Greater}
+use Rattle.std.specs.Cmp.{nat_cmp_total}
 use Rattle.std.specs.FinMap as fin
+use Rattle.std.specs.FinMap.{get-insert, get-empty}
+use Rattle.std.proofs.lemmas.Bool.{cases_eq}
+use Rattle.std.proofs.lemmas.Bool.Decides.{nat_tests}
+use Rattle.std.proofs.lemmas.List.{map-append}
+use Rattle.sw_data.specs.declared.ended.Ended.{Ended}
+use Rattle.sw_link.specs.declared.memory_link.MemoryLink.{MemoryLink}
 use Rattle.sw_record.specs.declared.record.LinkRecord.{LinkRecord}
 use Rattle.sw_record.specs.Terms.{session_of}
+use Rattle.sw_conn.specs.declared.conn.Conn.{Conn}
+use Rattle.sw_conn.specs.declared.terms.Terms.{Terms}
 use Rattle.sw_world_laws.specs.Account.{is_session, link_in}
+use Rattle.sw_world_reactor_fits.specs.Plain.{over_of}
 use Rattle.sw_world_account.specs.Firsts.{put_first, firsts_from}
+use Rattle.sw_world_account.specs.Kept.{live_by, kept_links, conn_session, end_session, kept_sessions}
 
 -- the link at a place, if there is one
 abbrev pub at_place : List LinkRecord → Option ℕ → Option LinkRecord
@@ -14,3 +28,65 @@ at_place ls (Some n) = slice_get ls n
 -- the session of a link
 abbrev pub own : LinkRecord → Option ℕ
 own l = session_of l.state
+
+-- ---- a place that is put
+
+tested : (l e : Bool) → e ≡ false → is_eq (cond l Less (cond e Equal Greater)) ≡ false
+tested true e h = refl
+tested false e h = ap (λ b. is_eq (cond b Equal Greater)) h
+
+same_as : (q k : ℕ) → eq_by_cmp nat_cmp q k ≡ (k == q)
+same_as q k = elim (cases_eq q k) [
+  | inl e ↦ grind (arith, nat_tests)
+  | inr ne ↦ tested (nat_lt q k) (q == k) (grind (arith, nat_tests)) ∙ sym (grind (arith, nat_tests))
+]
+
+put_at : (m : fin.FinMap nat_cmp ℕ) (u at s : ℕ) → fin.get (fin.insert m u at) s ≡ cond (u == s) (Some at) (fin.get m s)
+put_at m u at s = get-insert nat_cmp_total m u at s ∙ ap (λ b. cond b (Some at) (fin.get m s)) (same_as s u)
+
+pub put_finds : (x : Option ℕ) (m : fin.FinMap nat_cmp ℕ) (at s : ℕ) → fin.get (put_first x at m) s ≡ cond (is_session s x) (Some at) (fin.get m s)
+put_finds None m at s = refl
+put_finds (Some u) m at s = put_at m u at s
+
+-- ---- the first link
+
+pick : (b : Bool) (all : List LinkRecord) (l : LinkRecord) (at : ℕ) (o : Option LinkRecord) (q : Option ℕ) → slice_get all at ≡ Some l → o ≡ at_place all q → cond b (Some l) o ≡ at_place all (cond b (Some at) q)
+pick true all l at o q h e = sym h
+pick false all l at o q h e = e
+
+-- the list stands in another from this place on
+From : List LinkRecord → ℕ → List LinkRecord → Type 0
+From all at ls = (n : ℕ) → slice_get all (at + n) ≡ slice_get ls n
+
+found_from : (ls all : List LinkRecord) (at s : ℕ) → From all at ls → link_in s ls ≡ at_place all (fin.get (firsts_from at (map own ls)) s)
+found_from [] all at s h = refl
+found_from (l ∷ ls) all at s h =
+    pick (is_session s (own l)) all l at (link_in s ls) (fin.get (firsts_from (at + 1) (map own ls)) s)
+    (ap (slice_get all) (omega arith) ∙ h 0)
+    (found_from ls all (at + 1) s (λ n. ap (slice_get all) (omega arith) ∙ h (n + 1)))
+    ∙ ap (at_place all) (sym (put_finds (own l) (firsts_from (at + 1) (map own ls)) at s))
+
+pub found : (ls : List LinkRecord) (s : ℕ) → link_in s ls ≡ at_place ls (fin.get (firsts_from 0 (map own ls)) s)
+found ls s = found_from ls ls 0 s (λ n. refl)
+
+-- ---- the sessions of a reactor's links
+
+lives_own : (t : Terms) (conns : List (Conn MemoryLink ℕ)) → map own (map (live_by t) conns) ≡ map conn_session conns
+lives_own t [] = refl
+lives_own t (c ∷ cs) = ap (λ (zs : List (Option ℕ)). Some c.session ∷ zs) (lives_own t cs)
+
+overs_own : (ends : List (MemoryLink × Ended)) → map own (map over_of ends) ≡ map end_session ends
+overs_own [] = refl
+overs_own (x ∷ xs) = ap (λ (zs : List (Option ℕ)). (x.1).session ∷ zs) (overs_own xs)
+
+pub sessions_own : (t : Terms) (conns : List (Conn MemoryLink ℕ)) (ends : List (MemoryLink × Ended)) → map own (kept_links t conns ends) ≡ kept_sessions conns ends
+sessions_own t conns ends =
+    map-append own (map (live_by t) conns) (map over_of ends)
+    ∙ ap (λ (zs : List (Option ℕ)). zs ++ map own (map over_of ends)) (lives_own t conns)
+    ∙ ap (λ (zs : List (Option ℕ)). map conn_session conns ++ zs) (overs_own ends)
+
+-- the first link of a session among a reactor's
+pub kept_found : (t : Terms) (conns : List (Conn MemoryLink ℕ)) (ends : List (MemoryLink × Ended)) (s : ℕ) → link_in s (kept_links t conns ends) ≡ at_place (kept_links t conns ends) (fin.get (firsts_from 0 (kept_sessions conns ends)) s)
+kept_found t conns ends s =
+    found (kept_links t conns ends) s
+    ∙ ap (λ (zs : List (Option ℕ)). at_place (kept_links t conns ends) (fin.get (firsts_from 0 zs) s)) (sessions_own t conns ends)

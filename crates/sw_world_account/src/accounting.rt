@@ -11,7 +11,12 @@ use sw_record::{LinkRecord, LinkState, Links};
 use sw_world_places::{Arrived, Claimed};
 
 /// The record of all links that arrived, by what their claims answered and by the links of the reactors.
-pub fn account_links(alloc: Global, arrived: &[Arrived], kept: &[Kept<'_>], max_conn: u32) -> Result<Links, OutOfMemory>
+pub fn account_links(
+    alloc: Global,
+    arrived: &[Arrived],
+    kept: &[Kept<'_>],
+    max_conn: u32,
+) -> Result<Links, OutOfMemory>
     requires slots { 0 < max_conn }
     requires reactors { 0 < length kept.now }
     ensures { IfOk result (λ r. r ≡ map (record_of max_conn (length kept.now) (links_at kept.now)) arrived.now) }
@@ -23,7 +28,12 @@ pub fn account_links(alloc: Global, arrived: &[Arrived], kept: &[Kept<'_>], max_
     Ok(links)
 }
 
-fn record_of(alloc: Global, link: &Arrived, kept: &[Kept<'_>], max_conn: u32) -> Result<LinkRecord, OutOfMemory>
+fn record_of(
+    alloc: Global,
+    link: &Arrived,
+    kept: &[Kept<'_>],
+    max_conn: u32,
+) -> Result<LinkRecord, OutOfMemory>
     requires slots { 0 < max_conn }
     requires reactors { 0 < length kept.now }
     ensures { IfOk result (λ r. r ≡ record_of max_conn (length kept.now) (links_at kept.now) link.now) }
@@ -32,8 +42,16 @@ fn record_of(alloc: Global, link: &Arrived, kept: &[Kept<'_>], max_conn: u32) ->
     match link.claim() {
         None => Ok(untouched(alloc, ip, LinkState::Waiting)),
         Some(Claimed::Drew(session)) => link_or(alloc, ip, *session, kept, max_conn),
-        Some(Claimed::NoSlot) => Ok(untouched(alloc, ip, LinkState::Over(refusal(ip, Cause::NoSlot)))),
-        Some(Claimed::NumbersSpent) => Ok(untouched(alloc, ip, LinkState::Over(refusal(ip, Cause::NumbersSpent)))),
+        Some(Claimed::NoSlot) => Ok(untouched(
+            alloc,
+            ip,
+            LinkState::Over(refusal(ip, Cause::NoSlot)),
+        )),
+        Some(Claimed::NumbersSpent) => Ok(untouched(
+            alloc,
+            ip,
+            LinkState::Over(refusal(ip, Cause::NumbersSpent)),
+        )),
     }
 }
 

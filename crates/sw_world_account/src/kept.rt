@@ -27,7 +27,11 @@ pub struct Kept<'a> {
 
 impl<'a> Kept<'a> {
     /// The links of a reactor with its ends.
-    pub fn of(alloc: Global, reactor: &'a Reactor<MemoryLink, PlainTicket>, ends: &'a Roomy) -> Result<Kept<'a>, OutOfMemory>
+    pub fn of(
+        alloc: Global,
+        reactor: &'a Reactor<MemoryLink, PlainTicket>,
+        ends: &'a Roomy,
+    ) -> Result<Kept<'a>, OutOfMemory>
         requires { 0 < reactor.now.terms.max_conn }
         ensures { IfOk result (λ k. (k.reactor.now ≡ reactor.now) × (k.ends.now ≡ ends.now)) }
     {
@@ -94,7 +98,11 @@ fn shown(link: &MemoryLink, ip: u32, state: LinkState) -> Result<LinkRecord, Out
     })
 }
 
-fn sessions_of(alloc: Global, reactor: &Reactor<MemoryLink, PlainTicket>, ends: &Roomy) -> Result<Vec<Option<Session>>, OutOfMemory>
+fn sessions_of(
+    alloc: Global,
+    reactor: &Reactor<MemoryLink, PlainTicket>,
+    ends: &Roomy,
+) -> Result<Vec<Option<Session>>, OutOfMemory>
     requires { 0 < reactor.now.terms.max_conn }
     ensures { IfOk result (λ v. v.items ≡ kept_sessions reactor.now.line.conns ends.now.kept) }
 {
@@ -104,7 +112,10 @@ fn sessions_of(alloc: Global, reactor: &Reactor<MemoryLink, PlainTicket>, ends: 
     Ok(sessions)
 }
 
-fn lives(reactor: &Reactor<MemoryLink, PlainTicket>, sessions: &mut Vec<Option<Session>>) -> Result<(), OutOfMemory>
+fn lives(
+    reactor: &Reactor<MemoryLink, PlainTicket>,
+    sessions: &mut Vec<Option<Session>>,
+) -> Result<(), OutOfMemory>
     requires { 0 < reactor.now.terms.max_conn }
     ensures { OnOk result (sessions.new.items ≡ sessions.old.items ++ map conn_session reactor.now.line.conns) }
 {
