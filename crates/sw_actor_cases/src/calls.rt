@@ -1,10 +1,9 @@
 //! Tables of calls of the forms in memory: of a link, of a net, and of the ends that keep.
 
-use crate::links;
-use crate::numbers::text_of;
 use std::alloc::Global;
 use sw_base::OutOfMemory;
-use sw_case_texts::{Case, octets, small};
+use sw_case_lines::add_step;
+use sw_case_texts::{Case, octets, small, text_of};
 use sw_data::{Cause, Ended};
 use sw_link::{Accept, Ends, Keeper, Link, LinkRead, LinkWrite, MemoryLink, MemoryNet, Net};
 use sw_text::{ip, number, number_within, put_bytes};
@@ -47,6 +46,18 @@ fn put_write(
     Ok(())
 }
 
+/// What the link shows: the pieces that were read, and the bytes that were written.
+fn put_told(out: &mut String, link: &MemoryLink) -> Result<(), OutOfMemory> {
+    out.push_str("read")?;
+    for piece in link.pieces().as_slice() {
+        out.push_str(" ")?;
+        put_bytes(out, piece.bytes())?;
+    }
+    out.push_str(" written ")?;
+    put_bytes(out, link.written().bytes())?;
+    Ok(out.push_str("\n")?)
+}
+
 /// Plays the case: `link`, with steps of its script and calls.
 pub fn put_link(alloc: Global, out: &mut String, case: &Case) -> Result<(), OutOfMemory> {
     let mut link = MemoryLink::new(alloc);
@@ -55,8 +66,9 @@ pub fn put_link(alloc: Global, out: &mut String, case: &Case) -> Result<(), OutO
         match word {
             "read" => put_read(alloc, out, &mut link, rest)?,
             "write" => put_write(alloc, out, &mut link, rest)?,
+            "show" => put_told(out, &link)?,
             "link" => {
-                if !links::add(alloc, &mut link, rest)? {
+                if !add_step(alloc, &mut link, rest)? {
                     writeln!(out, "no step: {rest}")?;
                 }
             }
@@ -78,7 +90,7 @@ fn put_accept(out: &mut String, net: &mut MemoryNet) -> Result<(), OutOfMemory> 
     Ok(())
 }
 
-/// Plays the case: `net` with the number of the accept that fails, and lines of what arrives and of accepts.
+/// Plays the case: `net`, with an end from the start where it has the word `ends`, with the number of the accept that fails, and lines of what arrives and of accepts.
 pub fn put_net(
     alloc: Global,
     out: &mut String,
@@ -89,7 +101,7 @@ pub fn put_net(
         Some(text) => number(text.as_bytes()),
         None => None,
     };
-    let mut net = MemoryNet::new(Vec::new(alloc), false, fail_at);
+    let mut net = MemoryNet::new(alloc, text_of(words, "ends").is_some(), fail_at);
     for line in &case.lines {
         let (word, rest) = line.split_once(" ").unwrap_or((*line, ""));
         match word {

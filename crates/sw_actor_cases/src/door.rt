@@ -1,13 +1,10 @@
 //! Cases of the door: its turns, with what net, desk, board and ends answer.
 
-use crate::asks::put_ask;
-use crate::desk::CaseDesk;
-use crate::ended::put_ended;
-use crate::numbers::{small_of, text_of};
 use std::alloc::Global;
 use sw_base::{Counter, OutOfMemory};
-use sw_case_ports::{CaseEnds, CaseTicket};
-use sw_case_texts::{Case, session, small};
+use sw_case_lines::{put_ask, put_ended};
+use sw_case_ports::{CaseDesk, CaseEnds, CaseTicket};
+use sw_case_texts::{Case, session, small, small_of, text_of};
 use sw_data::{Ask, Got, Msg};
 use sw_door::Door;
 use sw_link::{MemoryLink, MemoryNet};
@@ -168,7 +165,7 @@ pub fn put(alloc: Global, out: &mut String, case: &Case, words: &str) -> Result<
     };
     let mut play = Play {
         door: Door::new(max_conn, reactors),
-        net: MemoryNet::new(Vec::new(alloc), false, fail_at),
+        net: MemoryNet::new(alloc, false, fail_at),
         desk: CaseDesk {
             size: max_conn,
             claim: None,

@@ -1,23 +1,12 @@
-//! Plays the cases of actors that standard input lists, and prints for each what came out: single turns of door, reactor, worker
-//! and task worker over ports whose answers the case gives, and calls of the forms in memory of links, nets and ends. The head of
-//! the stored standard input says how a case is written.
+//! Plays the cases of door and reactor that standard input lists, and prints for each what came out: single turns over ports whose
+//! answers the case gives, and calls of the forms in memory of links, nets and ends.
+//! The head of the stored standard input says how a case is written.
 #![tactic(auto)]
 
-mod asks;
 mod calls;
-mod desk;
 mod door;
-mod ended;
-mod hand;
 mod kinds;
-mod links;
-mod messages;
-mod numbers;
-mod playing;
 mod reactor;
-mod shelf;
-mod starving;
-mod watched;
 
 use std::io;
 use sw_causes::{ReaderSource, read_whole};

@@ -1,18 +1,12 @@
 //! Cases of a reactor: its turns, with what its book, board, ends and links answer.
 
-ghost use Rattle.std.specs.Prelude.{◌≡◌, [], IfOk, IfSome};
-
-use crate::asks::put_ask;
-use crate::ended::put_ended;
-use crate::links;
-use crate::messages::message;
-use crate::numbers::{number_of, octets_of, small_of, text_of};
-use crate::watched::Watched;
 use std::alloc::Global;
 use std::mem::replace;
 use sw_base::{Counter, OutOfMemory, Session};
-use sw_case_ports::{CaseTicket, Scene};
-use sw_case_texts::{Case, session, small};
+use sw_case_lines::{add_step, message, put_ask, put_ended};
+use sw_case_ports::{CaseTicket, Watched};
+use sw_case_scene::Scene;
+use sw_case_texts::{Case, number_of, octets_of, session, small, small_of, text_of};
 use sw_conn::Terms;
 use sw_data::{Ask, Got, Msg};
 use sw_frame::{FitFraming, Framing};
@@ -227,7 +221,7 @@ impl Play {
                     "idle" => self.scene.mark(n, true),
                     "busy" => self.scene.mark(n, false),
                     "link" => {
-                        if !links::add(alloc, &mut self.link, rest)? {
+                        if !add_step(alloc, &mut self.link, rest)? {
                             writeln!(out, "no step: {rest}")?;
                         }
                     }

@@ -116,6 +116,6 @@ impl Book for CaseBook {
         self.uid
     }
 
-    #[tactic(auto, using(crate::proofs::Apart::slots_differ))]
+    #[tactic(auto, using(crate::proofs::Tickets::slots_differ))]
     fn apart(&mut self, _one: &mut CaseTicket, _other: &mut CaseTicket) {}
 }

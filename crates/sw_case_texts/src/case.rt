@@ -1,6 +1,8 @@
-//! A case as it is written: its name, what it is a case of, and its lines.
+//! Cases as they are written: each has its name, what it is a case of, and its lines.
 
-use std::alloc::{AllocError, Global};
+use std::alloc::Global;
+use std::mem::replace;
+use sw_base::OutOfMemory;
 
 /// A case, lent from the text of all cases.
 #[derive(Drop)]
@@ -15,7 +17,7 @@ pub struct Case<'a> {
 
 impl<'a> Case<'a> {
     /// A case of this name in which nothing else stands yet.
-    pub fn new(alloc: Global, name: &'a str) -> Case<'a> {
+    fn new(alloc: Global, name: &'a str) -> Case<'a> {
         Case {
             name,
             kind: "",
@@ -24,7 +26,7 @@ impl<'a> Case<'a> {
     }
 
     /// Takes a line of the case that isn't its first.
-    pub fn add(&mut self, line: &'a str) -> Result<(), AllocError> {
+    fn add(&mut self, line: &'a str) -> Result<(), OutOfMemory> {
         if self.kind.is_empty() {
             self.kind = line;
         } else {
@@ -32,4 +34,20 @@ impl<'a> Case<'a> {
         }
         Ok(())
     }
+}
+
+/// The cases that a text lists, in order. An empty line says nothing, nor does one that begins with `#`; what stands before the
+/// first case makes one without a name.
+pub fn cases<'a>(alloc: Global, text: &'a str) -> Result<Vec<Case<'a>>, OutOfMemory> {
+    let mut found = Vec::new(alloc);
+    let mut case = Case::new(alloc, "");
+    for line in text.lines() {
+        if let Some(name) = line.strip_prefix("case ") {
+            found.push(replace(&mut case, Case::new(alloc, name)))?;
+        } else if !line.is_empty() && !line.starts_with("#") {
+            case.add(line)?;
+        }
+    }
+    found.push(case)?;
+    Ok(found)
 }

@@ -1,5 +1,4 @@
 //! A Table that refuses where a case says so.
-
 ghost use Rattle.std.specs.Prelude.{◌≡◌};
 ghost use Rattle.sw_port_shelf.specs.Shelf.{is_of_place};
 

@@ -1,8 +1,8 @@
 //! Settings of a case: words `NAME=VALUE`.
 
+use crate::events::{octets, small};
 use std::alloc::Global;
 use sw_base::{Octets, OutOfMemory};
-use sw_case_texts::{octets, small};
 use sw_text::number_within;
 
 /// The text that a setting has, if it stands there.

@@ -8,7 +8,7 @@ use Rattle.sw_reactor.specs.Line.{Lined}
 use Rattle.sw_reactor.specs.Ready.{IsReady, AreApart, tickets, tickets_of}
 use Rattle.sw_reactor.specs.declared.reactor.Reactor.{Reactor}
 use Rattle.sw_case_ports.specs.Book.{Holds, Differ}
-use Rattle.sw_case_ports.specs.Scene.{IsFreeSlot, MayTurn, number_of}
+use Rattle.sw_case_scene.specs.Scene.{IsFreeSlot, MayTurn, number_of}
 use Rattle.sw_case_ports.specs.declared.book.CaseBook.{CaseBook}
 use Rattle.sw_case_ports.specs.declared.ticket.CaseTicket.{CaseTicket}
 
@@ -56,10 +56,6 @@ pub apart_none : (b : CaseBook) (ts us : List CaseTicket) → AreApart Holds Dif
 apart_none b ts us a e =
     subst (λ (xs : List CaseTicket). AreApart Holds Differ b (ts ++ xs)) (sym e)
     (subst (λ (xs : List CaseTicket). AreApart Holds Differ b xs) (sym (append-nil ts)) a)
-
--- the slots of two tickets that are held are those of their sessions
-pub slots_differ : (b : CaseBook) (t u : CaseTicket) → Holds b t → Holds b u → Differ t u → t.session % b.size ≢ u.session % b.size
-slots_differ b t u h i unlike = λ e. unlike (h ∙ (e ∙ sym i))
 
 -- a reactor may take its turn
 pub may_turn : {L : Type 0} (r : Reactor L CaseTicket) (b : CaseBook) → IsReady number_of r → AreApart Holds Differ b (tickets r) → MayTurn r b

@@ -1,122 +1,16 @@
 //! Cases of a worker and of a task worker: their turns, with what book, Table, board and handler answer.
 
-ghost use Rattle.std.specs.Prelude.{◌<◌, IsTrue, IfOk, length};
-ghost use Rattle.sw_actor_cases.specs.Play.{IsSmall};
-
-use crate::asks::put_ask;
-use crate::messages::message;
-use crate::numbers::{number_of, small_of, text_of};
-use crate::playing::{Actor, CaseHandler, CaseMessage, Play};
-use crate::starving::Starving;
+use crate::playing::{CaseMessage, Play};
+use crate::settings::{handler_of, handlers_of, house_of, is_small, schema_of, script_of, start_of};
 use std::alloc::Global;
 use sw_base::{CallFault, Counter, OutOfMemory, WordId};
-use sw_call::{columns, schema};
+use sw_case_lines::{message, put_ask};
 use sw_case_texts::{Case, small};
-use sw_column::Schema;
 use sw_data::{Ask, Got};
-use sw_hand::House;
-use sw_handler::Logged;
-use sw_script::{Script, ScriptFault, read};
-use sw_scripted::Scripted;
 use sw_text::number;
 
 /// What a turn asks, where it could be made.
 type Turned = Option<Ask<CaseMessage>>;
-
-/// What is set for a hand beside the house.
-#[derive(Clone, Copy)]
-struct Start {
-    number: u32,
-    /// The next task's id.
-    from: u64,
-    /// How many handlers there are, one behind the other.
-    generations: u32,
-    /// How many events a handler is given that another follows.
-    most: u32,
-    /// How many events and answers a handler is given before it finds no memory.
-    starve: Option<u64>,
-}
-
-fn house_of(words: &str) -> House {
-    House {
-        mode: small_of(words, "mode", 2),
-        max_conn: small_of(words, "conns", 8),
-        reactors: small_of(words, "reactors", 1),
-        workers: small_of(words, "workers", 1),
-        taskers: small_of(words, "taskers", 0),
-        table: text_of(words, "table").is_some(),
-    }
-}
-
-fn start_of(words: &str) -> Start {
-    Start {
-        number: small_of(words, "number", 0),
-        from: number_of(words, "from", u64::MAX, 0),
-        generations: small_of(words, "generations", 1),
-        most: small_of(words, "most", 0),
-        starve: match text_of(words, "starve") {
-            Some(text) => number(text.as_bytes()),
-            None => None,
-        },
-    }
-}
-
-/// Whether the numbers of actors are in range.
-fn is_small(house: &House) -> bool
-    ensures { IsTrue result → IsSmall house.now }
-{
-    house.max_conn > 0
-        && house.reactors > 0
-        && house.reactors <= 64
-        && house.workers <= 64
-        && house.taskers <= 64
-}
-
-/// The columns of the Table; none where there is no Table or where they aren't columns.
-fn schema_of(alloc: Global, words: &str) -> Result<Schema, OutOfMemory> {
-    let text = text_of(words, "table").unwrap_or("");
-    match columns(alloc, text.as_bytes())? {
-        None => Ok(Schema::new(alloc)),
-        Some(columns) => match schema(alloc, &columns)? {
-            Ok(schema) => Ok(schema),
-            Err(_) => Ok(Schema::new(alloc)),
-        },
-    }
-}
-
-fn script_of(alloc: Global, case: &Case) -> Result<Option<Script>, OutOfMemory> {
-    let mut text = String::new(alloc);
-    for line in &case.lines {
-        if let Some(rule) = line.strip_prefix("> ") {
-            text.push_str(rule)?;
-            text.push_str("\n")?;
-        }
-    }
-    match read(alloc, text.as_bytes()) {
-        Ok(script) => Ok(Some(script)),
-        Err(ScriptFault::BadLine(_)) => Ok(None),
-        Err(ScriptFault::OutOfMemory) => Err(OutOfMemory),
-    }
-}
-
-fn handler_of(alloc: Global, script: Script, starve: Option<u64>) -> CaseHandler {
-    let inner = Starving {
-        inner: Scripted::new(script),
-        left: starve,
-    };
-    Logged::new(alloc, inner)
-}
-
-fn handlers_of(alloc: Global, script: Script, start: Start) -> Result<Vec<CaseHandler>, OutOfMemory>
-    ensures { IfOk result (λ handlers. 0 < length handlers.items) }
-{
-    let mut handlers = Vec::new(alloc);
-    for _ in 1..start.generations {
-        handlers.push(handler_of(alloc, script.copy()?, start.starve))?;
-    }
-    handlers.push(handler_of(alloc, script, start.starve))?;
-    Ok(handlers)
-}
 
 /// The fault of a Table's call: a taken lock or no more places.
 fn fault_of(text: &str) -> Option<CallFault> {

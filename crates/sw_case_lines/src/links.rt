@@ -31,7 +31,7 @@ fn step(alloc: Global, text: &str) -> Result<Option<LinkStep>, OutOfMemory> {
 }
 
 /// Adds the step to the script, and answers whether the text is one.
-pub fn add(alloc: Global, link: &mut MemoryLink, text: &str) -> Result<bool, OutOfMemory> {
+pub fn add_step(alloc: Global, link: &mut MemoryLink, text: &str) -> Result<bool, OutOfMemory> {
     match step(alloc, text)? {
         Some(step) => {
             link.add(step)?;

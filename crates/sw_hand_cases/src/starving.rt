@@ -1,5 +1,4 @@
 //! A handler that wants memory.
-
 ghost use Rattle.std.specs.Prelude.{◌≡◌, IfOk};
 
 use std::alloc::Global;

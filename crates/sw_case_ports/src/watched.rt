@@ -1,5 +1,4 @@
 //! A link whose calls are written down.
-
 ghost use Rattle.std.specs.Prelude.{◌≡◌};
 
 use std::alloc::Global;

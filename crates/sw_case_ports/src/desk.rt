@@ -1,9 +1,8 @@
-//! A desk whose answers a case gives.
-
+//! A desk whose answers a program sets.
 ghost use Rattle.std.specs.Prelude.{◌≡◌};
 
+use crate::ticket::CaseTicket;
 use sw_base::Session;
-use sw_case_ports::CaseTicket;
 use sw_port_book::{ClaimFault, Desk};
 
 /// A desk whose next claim answers what was set; without that it is Spent.

@@ -7,9 +7,9 @@ use Rattle.sw_port_board.specs.declared.crew.Sizes.{Sizes}
 use Rattle.sw_hand.specs.Hand.{IsCrew, HasRow}
 use Rattle.sw_hand.specs.declared.house.House.{House}
 use Rattle.sw_case_ports.specs.declared.book.CaseBook.{CaseBook}
-use Rattle.sw_actor_cases.specs.declared.playing.Actor.{Actor}
-use Rattle.sw_actor_cases.specs.declared.playing.Actor.TheVariants.{Worker, Tasker}
-use Rattle.sw_actor_cases.specs.declared.shelf.CaseShelf.{CaseShelf}
+use Rattle.sw_hand_cases.specs.declared.playing.Actor.{Actor}
+use Rattle.sw_hand_cases.specs.declared.playing.Actor.TheVariants.{Worker, Tasker}
+use Rattle.sw_hand_cases.specs.declared.shelf.CaseShelf.{CaseShelf}
 
 -- the board's crews are the server's, and the row's buffer has the Table's columns
 abbrev pub MayTurn : Actor → List Column → Sizes → Type 0

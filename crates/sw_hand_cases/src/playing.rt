@@ -1,8 +1,7 @@
 //! A worker or a task worker with its ports.
-
 ghost use Rattle.std.specs.Prelude.{◌≡◌, ◌<◌, ◌≤◌, ◌+◌, length, IfOk};
 ghost use Rattle.sw_hand.specs.Hand.{IsCrew};
-ghost use Rattle.sw_actor_cases.specs.Play.{IsSmall};
+ghost use Rattle.sw_hand_cases.specs.Play.{IsSmall};
 
 use crate::shelf::CaseShelf;
 use crate::starving::Starving;
@@ -50,7 +49,7 @@ pub struct Play {
 }
 
 impl Model for Play {
-    ghost use Rattle.sw_actor_cases.specs.Play.{Played, MayTurn};
+    ghost use Rattle.sw_hand_cases.specs.Play.{Played, MayTurn};
 
     ghost Value = { Played };
 

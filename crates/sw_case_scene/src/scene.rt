@@ -1,15 +1,13 @@
 //! A reactor with its ports.
-ghost use Rattle.std.specs.Prelude.{◌≡◌, ◌<◌, ◌≤◌, [], ◌++◌, ◌∷◌, IsTrue, IfOk, length};
+ghost use Rattle.std.specs.Prelude.{◌≡◌, ◌<◌, ◌≤◌, [], ◌++◌, ◌∷◌, IsTrue, IfOk, length, false};
 ghost use Rattle.sw_reactor.specs.Ready.{AreApart, tickets, brought};
 ghost use Rattle.sw_case_ports.specs.Book.{Holds, Differ};
-ghost use Rattle.sw_case_ports.specs.Scene.{IsFreeSlot};
+ghost use Rattle.sw_case_scene.specs.Scene.{IsFreeSlot};
 
-use crate::book::CaseBook;
-use crate::ends::CaseEnds;
-use crate::ticket::CaseTicket;
 use std::alloc::Global;
 use std::marker::Model;
 use sw_base::{Counter, OutOfMemory, Session};
+use sw_case_ports::{CaseBook, CaseEnds, CaseTicket};
 use sw_conn::Terms;
 use sw_data::{Ask, Ended, Got, Msg};
 use sw_frame::FitFraming;
@@ -27,13 +25,26 @@ pub struct Scene<L> {
 }
 
 impl<L> Model for Scene<L> {
-    ghost use Rattle.sw_case_ports.specs.Scene.{Staged, MayTurn};
+    ghost use Rattle.sw_case_scene.specs.Scene.{Staged, MayTurn};
 
     ghost Value = { Staged L };
 
     ghost view = { λ s. record { reactor = s.reactor; book = s.book; board = s.board; ends = s.ends } };
 
     ghost invariant = { λ s. MayTurn s.reactor s.book };
+}
+
+/// Whether a pipe call gave a new link.
+fn brings<L>(got: &Got<Msg<L, CaseTicket>>) -> bool
+    ensures { result ≡ false → brought got.now ≡ [] }
+{
+    match got {
+        Got::Took(message) => match message {
+            Msg::Fresh(_, _, _) => true,
+            _ => false,
+        },
+        _ => false,
+    }
 }
 
 /// Whether no connection's ticket has this slot.
@@ -86,7 +97,7 @@ impl<L> Scene<L> {
 }
 
 impl<L> Scene<L> {
-    ghost use Rattle.sw_case_ports.specs.Scene.{Fits};
+    ghost use Rattle.sw_case_scene.specs.Scene.{Fits};
 
     /// Whether book and board are of the sizes that the reactor goes by.
     fn fits(&self) -> bool
@@ -146,22 +157,21 @@ impl<L: Drop> Scene<L> {
 }
 
 impl<L: Link + Drop> Scene<L> {
-    /// A turn, with what the last pipe call gave. It asks for a rest where book and board don't fit the reactor.
-    pub fn turn(&mut self, alloc: Global, got: Got<Msg<L, CaseTicket>>) -> Ask<Msg<L, CaseTicket>>
-        requires { brought got ≡ [] }
-    {
-        if !self.fits() {
+    /// A turn, with what the last pipe call gave, other than a new link: that is what `arrive` is for. It asks for a rest where
+    /// it is one, and where book and board don't fit the reactor.
+    #[tactic(auto, using(crate::proofs::Apart::apart_none, crate::proofs::Apart::may_turn))]
+    pub fn turn(&mut self, alloc: Global, got: Got<Msg<L, CaseTicket>>) -> Ask<Msg<L, CaseTicket>> {
+        if !self.fits() || brings(&got) {
             return Ask::Rest;
         }
         self.reactor.turn(alloc, got, &mut self.book, &mut self.board, &mut self.ends)
     }
 
-    /// The settling of what the last pipe call gave, alone. Nothing is settled where book and board don't fit the reactor.
+    /// The settling of what the last pipe call gave, alone. Nothing is settled where it is a new link, or where book and board
+    /// don't fit the reactor.
     #[tactic(auto, using(crate::proofs::Apart::apart_none, crate::proofs::Apart::may_turn))]
-    pub fn settle(&mut self, alloc: Global, got: Got<Msg<L, CaseTicket>>)
-        requires { brought got ≡ [] }
-    {
-        if self.fits() {
+    pub fn settle(&mut self, alloc: Global, got: Got<Msg<L, CaseTicket>>) {
+        if self.fits() && !brings(&got) {
             self.reactor.settle(alloc, got, &mut self.book);
         }
     }
