@@ -2,13 +2,13 @@
 ghost use Rattle.std.specs.Prelude.{◌≡◌, ◌<◌, ◌≤◌, All, IfOk};
 ghost use Rattle.sw_column.specs.Values.{HasKinds};
 ghost use Rattle.sw_table_join.specs.Tables.{IsReady};
-ghost use Rattle.sw_cases.specs.Forms.{AreOpen, AreClosed, IsHolder};
+ghost use Rattle.sw_table_cases.specs.Forms.{AreOpen, AreClosed, IsHolder};
 
-use crate::printed_calls::put_reply;
 use std::alloc::Global;
 use sw_base::{Call, CallFault, OutOfMemory};
 use sw_bucket::{Bucket, Pool};
 use sw_column::{RowBuf, Schema};
+use sw_log_text::put_reply;
 use sw_port_shelf::Placed;
 use sw_table::{CloseFault, Hands, Seat, Table, close, create};
 use sw_tmodel::{Plain, raised};
@@ -51,7 +51,7 @@ fn told(
     match answer {
         Ok(placed) => {
             write!(out, "{} ", placed.at)?;
-            put_reply(&mut out, &placed.reply, row.cells()?.as_slice())?;
+            put_reply(&mut out, placed.reply, &row.cells()?)?;
         }
         Err(fault) => write!(out, "refused {fault:?}")?,
     }
