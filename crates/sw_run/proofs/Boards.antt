@@ -1,0 +1,22 @@
+-- The seats of a fresh board.
+use Rattle.std.proofs.Common.{◌≡◌, ◌<◌, ◌≤◌, ℕ, zero, suc, All, List, [], ◌∷◌, ◌++◌, length, refl, sym, ap, ◌∙◌, subst, arith}
+use Rattle.std.proofs.lemmas.List.Elements.{All-append}
+use Rattle.sw_board.specs.Values.{BoardId, SeatNow, seat_now, fresh_seats, AreFresh}
+use Rattle.sw_port_board.specs.declared.crew.Sizes.{Sizes}
+use Rattle.sw_run.specs.Boards.{board_of}
+
+one : {X : Type 0} (P : X → Type 0) (x : X) → P x → All P (x ∷ [])
+one P x p zero d lt = p
+one P x p (suc k) d lt = absurd (omega arith)
+
+pub of_board : (b : BoardId) (n : ℕ) → All (λ (s : SeatNow). s.board ≡ b) (fresh_seats b n)
+of_board b zero k d lt = absurd (omega arith)
+of_board b (suc n) = All-append (λ (s : SeatNow). s.board ≡ b) (fresh_seats b n) (seat_now b n [] ∷ []) (of_board b n) (one (λ (s : SeatNow). s.board ≡ b) (seat_now b n []) refl)
+
+first_of : (b : BoardId) (xs : List SeatNow) (s : SeatNow) → All (λ (t : SeatNow). t.board ≡ b) xs → s.board ≡ b → board_of (xs ++ s ∷ []) ≡ b
+first_of b [] s h e = e
+first_of b (x ∷ xs) s h e = h 0 x (omega arith)
+
+pub board_is : (b : BoardId) (n : ℕ) → 0 < n → board_of (fresh_seats b n) ≡ b
+board_is b zero some = absurd (omega (arith, some))
+board_is b (suc n) some = first_of b (fresh_seats b n) (seat_now b n []) (of_board b n) refl

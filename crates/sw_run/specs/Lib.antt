@@ -1,0 +1,4 @@
+pub mod Boards
+pub mod Plans
+pub mod Counts
+pub mod Ran

@@ -1,0 +1,64 @@
+//! What a run leaves.
+
+use std::alloc::{AllocError, AllocFailed};
+use sw_base::OutOfMemory;
+use sw_tmodel::Plain;
+
+/// What is left of a server.
+#[derive(Drop)]
+pub struct Stopped<N, E, H, T> {
+    /// The net, as the run left it.
+    pub net: N,
+    /// The ends of the reactors, and of the door behind them.
+    pub ends: Vec<E>,
+    /// The handlers of each worker, in their order.
+    pub workers: Vec<Vec<H>>,
+    /// The handler of each task worker.
+    pub taskers: Vec<T>,
+    /// The Table's rows; None where the settings have no columns.
+    pub table: Option<Plain>,
+}
+
+/// What is given one for each actor.
+#[derive(Clone, Copy, Debug, PartialEq, Eq)]
+pub enum Part {
+    /// The ends: one for each reactor, and the door's.
+    Ends,
+    /// The handlers of workers.
+    Workers,
+    /// The handlers of one worker.
+    Generations,
+    /// The handlers of task workers.
+    Taskers,
+}
+
+/// Why a server didn't run to its end.
+#[derive(Drop)]
+pub enum ServeFault<N, E, H, T> {
+    /// So many of this part are needed, and so many were given.
+    HandlerCount(Part, u64, u64),
+    /// An accept failed.
+    ListenFault(Stopped<N, E, H, T>),
+    /// Not all actors came to their end.
+    StartFault(Stopped<N, E, H, T>),
+    /// Memory ran out.
+    OutOfMemory,
+}
+
+impl<N, E, H, T> From<OutOfMemory> for ServeFault<N, E, H, T> {
+    fn from(_wanted: OutOfMemory) -> ServeFault<N, E, H, T> {
+        ServeFault::OutOfMemory
+    }
+}
+
+impl<N, E, H, T> From<AllocError> for ServeFault<N, E, H, T> {
+    fn from(_wanted: AllocError) -> ServeFault<N, E, H, T> {
+        ServeFault::OutOfMemory
+    }
+}
+
+impl<N, E, H, T, X: Drop> From<AllocFailed<X>> for ServeFault<N, E, H, T> {
+    fn from(_wanted: AllocFailed<X>) -> ServeFault<N, E, H, T> {
+        ServeFault::OutOfMemory
+    }
+}

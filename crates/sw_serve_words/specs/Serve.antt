@@ -1,0 +1,37 @@
+-- What the words behind serve say: options with their values, in any order, each at most once.
+use Rattle.std.specs.Prelude.{ℕ, if◌then◌else◌, codes, List, [], ◌∷◌, Option, Some, None}
+use Rattle.std.specs.Str.{bytes_eq}
+use Rattle.sw_text.specs.Numbers.{number_within}
+use Rattle.sw_serve_words.specs.declared.serve.ServeWords.{ServeWords}
+use Rattle.sw_serve_words.specs.Unset.{unset}
+
+-- nothing is named
+abbrev pub no_serve : ServeWords
+no_serve = record { port = None; accept = None }
+
+-- a port more, where it is one
+abbrev pub port_named : ServeWords → Option ℕ → Option ServeWords
+port_named w None = None
+port_named w (Some n) = Some (record w { port = Some n })
+
+-- a number of links more, where it is one
+abbrev pub accept_named : ServeWords → Option ℕ → Option ServeWords
+accept_named w None = None
+accept_named w (Some n) = Some (record w { accept = Some n })
+
+-- one option more: a port from 0 to 65,535, or a number of links from 1 to 4,294,967,295
+abbrev pub with_serve : ServeWords → List ℕ → List ℕ → Option ServeWords
+with_serve w name value =
+    if bytes_eq name (codes "--port") then port_named w (unset w.port (number_within 0 65535 value))
+    else if bytes_eq name (codes "--accept") then accept_named w (unset w.accept (number_within 1 4294967295 value))
+    else None
+
+-- one option after the other, each with its value
+abbrev pub serve_more : List (List ℕ) → Option ServeWords → Option ServeWords
+serve_more [] w = w
+serve_more (name ∷ []) w = None
+serve_more (name ∷ value ∷ rest) None = None
+serve_more (name ∷ value ∷ rest) (Some w) = serve_more rest (with_serve w name value)
+
+abbrev pub serve_words : List (List ℕ) → ServeWords → Option ServeWords
+serve_words ws w = serve_more ws (Some w)

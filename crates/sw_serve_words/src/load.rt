@@ -1,0 +1,127 @@
+//! The words behind `load`.
+ghost use Rattle.std.specs.Prelude.{◌≡◌, map, string_bytes};
+ghost use Rattle.sw_serve_words.specs.Load.{seed_named, connections_named, packets_named, with_load, load_words, plan_of};
+
+use crate::unset::unset;
+use sw_load::Plan;
+use sw_text::{is, number_within};
+
+/// What the words behind `load` say.
+#[derive(Clone, Copy, Debug, PartialEq, Eq)]
+pub struct LoadWords {
+    /// What the bytes begin with.
+    pub seed: Option<u64>,
+    /// How many connections there are.
+    pub connections: Option<u64>,
+    /// How many packets each sends.
+    pub packets: Option<u64>,
+}
+
+/// These words with a seed.
+fn seed_named(words: LoadWords, seed: Option<u64>) -> Option<LoadWords>
+    ensures { result ≡ seed_named words seed }
+{
+    match seed {
+        None => None,
+        Some(seed) => Some(LoadWords {
+            seed: Some(seed),
+            connections: words.connections,
+            packets: words.packets,
+        }),
+    }
+}
+
+/// These words with a number of connections.
+fn connections_named(words: LoadWords, connections: Option<u64>) -> Option<LoadWords>
+    ensures { result ≡ connections_named words connections }
+{
+    match connections {
+        None => None,
+        Some(connections) => Some(LoadWords {
+            seed: words.seed,
+            connections: Some(connections),
+            packets: words.packets,
+        }),
+    }
+}
+
+/// These words with a number of packets.
+fn packets_named(words: LoadWords, packets: Option<u64>) -> Option<LoadWords>
+    ensures { result ≡ packets_named words packets }
+{
+    match packets {
+        None => None,
+        Some(packets) => Some(LoadWords {
+            seed: words.seed,
+            connections: words.connections,
+            packets: Some(packets),
+        }),
+    }
+}
+
+/// These words with one option more.
+fn with_load(words: LoadWords, name: &[u8], value: &[u8]) -> Option<LoadWords>
+    ensures { result ≡ with_load words name.now value.now }
+{
+    if is(name, "--seed") {
+        seed_named(words, unset(words.seed, number_within(value, 0, u64::MAX)))
+    } else if is(name, "--connections") {
+        connections_named(words, unset(words.connections, number_within(value, 1, 1_024)))
+    } else if is(name, "--packets") {
+        packets_named(words, unset(words.packets, number_within(value, 1, 1_000_000)))
+    } else {
+        None
+    }
+}
+
+/// These words, and what the others say.
+fn load_from(words: LoadWords, others: &[String]) -> Option<LoadWords>
+    ensures { result ≡ load_words (map string_bytes others.now) words }
+{
+    match others {
+        [] => Some(words),
+        [_] => None,
+        [name, value, rest @ ..] => {
+            match with_load(words, name.as_bytes(), value.as_bytes()) {
+                None => None,
+                Some(words) => load_from(words, rest),
+            }
+        }
+    }
+}
+
+/// The plan of these numbers, where all are there and the server gets 1,000,000 packets at most.
+fn plan_of(seed: Option<u64>, connections: Option<u64>, packets: Option<u64>) -> Option<Plan>
+    ensures { result ≡ plan_of seed connections packets }
+{
+    match seed {
+        None => None,
+        Some(seed) => match connections {
+            None => None,
+            Some(connections) => match packets {
+                None => None,
+                Some(packets) => Plan::of(seed, connections, packets),
+            },
+        },
+    }
+}
+
+impl LoadWords {
+    ghost use Rattle.sw_serve_words.specs.Load.{plan_in, no_load};
+
+    /// The plan that words say that stand behind `load`: all three options, in any order, each once, each with its value. None
+    /// exactly where they are something else.
+    pub fn plan(words: &[String]) -> Option<Plan>
+        ensures { result ≡ plan_in (load_words (map string_bytes words.now) no_load) }
+    {
+        let none = LoadWords {
+            seed: None,
+            connections: None,
+            packets: None,
+        };
+        match load_from(none, words) {
+            None => None,
+            Some(words) => plan_of(words.seed, words.connections, words.packets),
+        }
+    }
+}

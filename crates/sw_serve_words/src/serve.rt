@@ -1,0 +1,91 @@
+//! The words behind `serve`.
+ghost use Rattle.std.specs.Prelude.{◌≡◌, ◌≤◌, map, string_bytes, IfSome};
+ghost use Rattle.sw_serve_words.specs.Serve.{port_named, accept_named, with_serve, serve_words, IsWithin};
+
+use crate::unset::unset;
+use sw_text::{is, number_within};
+
+/// What the words behind `serve` say.
+#[derive(Clone, Copy, Debug, PartialEq, Eq)]
+pub struct ServeWords {
+    /// The port of 127.0.0.1 to listen on, where one is named: 0 to 65,535, 0 for one that the system picks.
+    pub port: Option<u64>,
+    /// After how many links the net ends, where a number is named: 1 to 4,294,967,295.
+    pub accept: Option<u64>,
+}
+
+/// These words with a port.
+fn port_named(words: ServeWords, port: Option<u64>) -> Option<ServeWords>
+    ensures { result ≡ port_named words port }
+{
+    match port {
+        None => None,
+        Some(port) => Some(ServeWords {
+            port: Some(port),
+            accept: words.accept,
+        }),
+    }
+}
+
+/// These words with a number of links.
+fn accept_named(words: ServeWords, accept: Option<u64>) -> Option<ServeWords>
+    ensures { result ≡ accept_named words accept }
+{
+    match accept {
+        None => None,
+        Some(accept) => Some(ServeWords {
+            port: words.port,
+            accept: Some(accept),
+        }),
+    }
+}
+
+/// These words with one option more.
+fn with_serve(words: ServeWords, name: &[u8], value: &[u8]) -> Option<ServeWords>
+    ensures { result ≡ with_serve words name.now value.now }
+{
+    if is(name, "--port") {
+        port_named(words, unset(words.port, number_within(value, 0, 65_535)))
+    } else if is(name, "--accept") {
+        accept_named(
+            words,
+            unset(words.accept, number_within(value, 1, 4_294_967_295)),
+        )
+    } else {
+        None
+    }
+}
+
+/// These words, and what the others say.
+fn serve_from(words: ServeWords, others: &[String]) -> Option<ServeWords>
+    ensures { result ≡ serve_words (map string_bytes others.now) words }
+{
+    match others {
+        [] => Some(words),
+        [_] => None,
+        [name, value, rest @ ..] => {
+            match with_serve(words, name.as_bytes(), value.as_bytes()) {
+                None => None,
+                Some(words) => serve_from(words, rest),
+            }
+        }
+    }
+}
+
+impl ServeWords {
+    ghost use Rattle.sw_serve_words.specs.Serve.{serve_words, no_serve};
+
+    /// What words say that stand behind `serve`: options in any order, each at most once, each with its value. None exactly
+    /// where they are something else.
+    pub fn of(words: &[String]) -> Option<ServeWords>
+        ensures { result ≡ serve_words (map string_bytes words.now) no_serve }
+    {
+        serve_from(
+            ServeWords {
+                port: None,
+                accept: None,
+            },
+            words,
+        )
+    }
+}
