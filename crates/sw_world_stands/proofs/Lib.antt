@@ -1,0 +1,5 @@
+pub mod Gets
+pub mod Rows
+pub mod Goes
+pub mod Arrivals
+pub mod Starts
