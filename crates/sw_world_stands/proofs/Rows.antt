@@ -52,7 +52,7 @@ rows_ext t r f g ps qs h ef eg =
       workers = h.workers;
       taskers = h.taskers;
       reactors = h.reactors;
-      each = λ y e. let k = h.each y e in (k.0, (k.1.0, record { next = k.1.1.next ∙ ef y; pipe = k.1.1.pipe ∙ eg y; room = k.1.1.room }));
+      each = λ y e. let k = h.each y e in (k.0, (k.1.0, record { next = k.1.1.next ∙ ef y; pipe = k.1.1.pipe ∙ eg y; room = k.1.1.room; new = k.1.1.new; links = k.1.1.links }));
     }
 
 same_place : (c q : Place) (o : Option Place) → o ≡ Some c → o ≡ Some q → q ≡ c
@@ -61,20 +61,20 @@ same_place c q o a b = some_same q c (sym b ∙ a)
 -- one actor's place is changed
 pub changed : (t : Terms) (r s : Rows) (nexts : ActorId → Pending) (pipes : ActorId → List Message) (y : ActorId) (P : Place → Place → Type 0) (n : Pending) (ms : List Message) →
     there t y ≡ true → RowsStand t r nexts pipes → AtRow r (number_of t y) P s →
-    ((c d : Place) → P c d → PlaceStands t c (nexts y) (pipes y) → PlaceStands t d n ms) →
+    ((c d : Place) → P c d → PlaceStands t y c (nexts y) (pipes y) → PlaceStands t y d n ms) →
     RowsStand t s (set_at nexts y n) (set_at pipes y ms)
 changed t r s nexts pipes y P n ms here h at keeps =
     subst (λ (w : Rows). RowsStand t w (set_at nexts y n) (set_at pipes y ms)) (sym at.1.1.2)
     (record { workers = h.workers; taskers = h.taskers; reactors = h.reactors; each = λ z e. pick z e (is z y) refl })
   where
-    old : PlaceStands t at.0 (nexts y) (pipes y)
-    old = let k = h.each y here in subst (λ (q : Place). PlaceStands t q (nexts y) (pipes y)) (same_place at.0 k.0 (slice_get r.all (number_of t y)) at.1.1.0 k.1.0) k.1.1
+    old : PlaceStands t y at.0 (nexts y) (pipes y)
+    old = let k = h.each y here in subst (λ (q : Place). PlaceStands t y q (nexts y) (pipes y)) (same_place at.0 k.0 (slice_get r.all (number_of t y)) at.1.1.0 k.1.0) k.1.1
 
-    new : PlaceStands t at.1.0 n ms
+    new : PlaceStands t y at.1.0 n ms
     new = keeps at.0 at.1.0 at.1.1.1 old
 
-    pick : (z : ActorId) → there t z ≡ true → (v : Bool) → is z y ≡ v → StandsAt t (record r { all = slice_set r.all (number_of t y) at.1.0 }) (number_of t z) (if v then n else nexts z) (if v then ms else pipes z)
-    pick z e true i = (at.1.0, (ap (λ (w : ActorId). slice_get (slice_set r.all (number_of t y) at.1.0) (number_of t w)) (is_same z y i) ∙ get_same r.all (number_of t y) at.0 at.1.0 at.1.1.0, new))
+    pick : (z : ActorId) → there t z ≡ true → (v : Bool) → is z y ≡ v → StandsAt t (record r { all = slice_set r.all (number_of t y) at.1.0 }) z (if v then n else nexts z) (if v then ms else pipes z)
+    pick z e true i = (at.1.0, (ap (λ (w : ActorId). slice_get (slice_set r.all (number_of t y) at.1.0) (number_of t w)) (is_same z y i) ∙ get_same r.all (number_of t y) at.0 at.1.0 at.1.1.0, subst (λ (w : ActorId). PlaceStands t w at.1.0 n ms) (sym (is_same z y i)) new))
     pick z e false i =
         let k = h.each z e in
         let apart : ¬ (number_of t z ≡ number_of t y) = (λ q. is_not z y i (number_same t z y (is_there t z e) (is_there t y here) q)) in

@@ -16,6 +16,7 @@ use Rattle.sw_world_places.specs.Places.{Rows, new_rows, AtRow}
 use Rattle.sw_world_places.specs.declared.place.Place.{Place}
 use Rattle.sw_world_places.specs.declared.place.Next.TheVariants.{Asked}
 use Rattle.sw_world_stands.specs.Asked.{ask_of, next_of}
+use Rattle.sw_world_stands.specs.New.{AskNew}
 use Rattle.sw_world_stands.specs.Rows.{RowsStand, IsDue}
 use Rattle.sw_world_stands.proofs.Rows.{is_there, rows_ext, set_twice}
 use Rattle.sw_world_stands.proofs.Goes.{next_changed, due_goes, due_may}
@@ -38,15 +39,15 @@ new_stand t =
       workers = refl;
       taskers = refl;
       reactors = refl;
-      each = λ y e. (fresh (record { waiting = []; room = t.pipe_capacity }), (same_get (t.worker_num + t.tasker_num + t.reactor_num + 1) (number_of t y) (fresh (record { waiting = []; room = t.pipe_capacity })) (number_less t y (is_there t y e)), record { next = refl; pipe = refl; room = refl }));
+      each = λ y e. (fresh (record { waiting = []; room = t.pipe_capacity }), (same_get (t.worker_num + t.tasker_num + t.reactor_num + 1) (number_of t y) (fresh (record { waiting = []; room = t.pipe_capacity })) (number_less t y (is_there t y e)), record { next = refl; pipe = refl; room = refl; new = tt; links = tt }));
     }
 
 -- what an actor asked is next
 pub asked_stand : (t : Terms) (r s : Rows) (nexts : ActorId → Pending) (pipes : ActorId → List Message) (y : ActorId) (n : Pending) (ask : Asking) →
-    there t y ≡ true → RowsStand t r (set_at nexts y n) pipes → AtRow r (number_of t y) (λ c d. d ≡ record c { next = Asked ask }) s → RowsStand t s (set_at nexts y (Waits (ask_of ask))) pipes
-asked_stand t r s nexts pipes y n ask here h at =
+    there t y ≡ true → AskNew y ask → RowsStand t r (set_at nexts y n) pipes → AtRow r (number_of t y) (λ c d. d ≡ record c { next = Asked ask }) s → RowsStand t s (set_at nexts y (Waits (ask_of ask))) pipes
+asked_stand t r s nexts pipes y n ask here new h at =
     rows_ext t s (set_at (set_at nexts y n) y (next_of (Asked ask))) (set_at nexts y (Waits (ask_of ask))) pipes pipes
-    (next_changed t r s (set_at nexts y n) pipes y (λ c d. d ≡ record c { next = Asked ask }) (Asked ask) here h at (λ c d e. e))
+    (next_changed t r s (set_at nexts y n) pipes y (λ c d. d ≡ record c { next = Asked ask }) (Asked ask) here h at (λ c d e. e) new)
     (set_twice nexts y n (Waits (ask_of ask))) (λ z. refl)
 
 -- a turn that is due is a step
