@@ -15,6 +15,7 @@ ghost use Rattle.sw_world_ports.specs.Ports.{Ports, new_ports};
 ghost use Rattle.sw_world_fits.specs.Book.{BookStands};
 ghost use Rattle.sw_world_fits.specs.Board.{number_of, BoardStands};
 ghost use Rattle.sw_world_places.specs.Pipes.{Asking, Getting};
+ghost use Rattle.sw_world_stands.specs.New.{GotNew};
 ghost use Rattle.sw_world_places.specs.Links.{no_arrivals, kept, TakesAhead};
 ghost use Rattle.sw_world_front.specs.declared.front.Front.{Front};
 ghost use Rattle.sw_world_front.specs.Front.{arrived, net_ended, TurnsFront};
@@ -52,10 +53,10 @@ pub fn taken_steps_stand()
 {}
 
 /// A turn makes calls that the ports answer so, and is a turn of the family's door; net, links, book and board stand as these calls
-/// leave them.
+/// leave them, and a link that it pushes is new.
 pub fn turns_fit()
     ensures { (t : Terms) (shape : Shape) (p : Ports) (f h : Front) (s : DoorState) (b c : Words) (o q : PlainWords)
-        (got : Getting) (ask : Asking) → FrontStands t f s p → BookStands t b p → BoardStands t o p →
+        (got : Getting) (ask : Asking) → FrontStands t f s p → GotNew TheDoor got → BookStands t b p → BoardStands t o p →
         o.turn ≡ number_of t TheDoor → ((k : Counter) (z : ActorId) → p.counts k z ≤ greatest) → 1 ≤ t.max_conn →
         TurnsFront f b o got h c q ask → FrontFits t shape p s got h c q ask }
 {}
