@@ -174,12 +174,12 @@ module _ (t : Terms) (legal : List Ran → Type 0) (p : Actors t) (c : Core p.St
   called r s n asks.Finished due here h by new f e k =
       subst (λ (d : Option Getting). WentBy t legal p c y d s (Waits AskFinished)) (sym k.0)
       (λ o. (tt, (subst (λ (w : Rows). RowsStand t w c.nexts c.pipes) (sym k.1) (rows_ext t r (set_at c.nexts y n) c.nexts c.pipes c.pipes h (set_same c.nexts y n (sym e ∙ sym (f refl))) (λ z. refl)), record { states = refl; ports = refl; feed = refl; lost = refl })))
-  called r s n asks.Nothing due here h by new f e k = subst (λ (d : Option Getting). WentBy t legal p c y d s (Waits AskNothing)) (sym k.0) (refl, (n, subst (λ (w : Rows). RowsStand t w (set_at c.nexts y n) c.pipes) (sym k.1) h))
-  called r s n asks.Rest due here h by new f e k = subst (λ (d : Option Getting). WentBy t legal p c y d s (Waits AskRest)) (sym k.0) (refl, (n, subst (λ (w : Rows). RowsStand t w (set_at c.nexts y n) c.pipes) (sym k.1) h))
+  called r s n asks.Nothing due here h by new f e k = subst (λ (d : Option Getting). WentBy t legal p c y d s (Waits AskNothing)) (sym k.0) (refl, tt, (n, subst (λ (w : Rows). RowsStand t w (set_at c.nexts y n) c.pipes) (sym k.1) h))
+  called r s n asks.Rest due here h by new f e k = subst (λ (d : Option Getting). WentBy t legal p c y d s (Waits AskRest)) (sym k.0) (refl, tt, (n, subst (λ (w : Rows). RowsStand t w (set_at c.nexts y n) c.pipes) (sym k.1) h))
 
   -- the next of an actor, by what it was
   by_next : (q s : Rows) (x : Next) (due : Option Getting) → there t y ≡ true → LinksByDoor t c y → NextNew y x → RowsStand t q (set_at c.nexts y (next_of (next_left x))) c.pipes → next_of x ≡ c.nexts y → GoesBy q (number_of t y) x due s → WentBy t legal p c y due s (next_of x)
-  by_next q s (nexts.Gave got) due here by new h e k = subst (λ (d : Option Getting). WentBy t legal p c y d s (Gave (got_of got))) (sym k.0) (refl, (Gave (got_of gots.Nothing), subst (λ (w : Rows). RowsStand t w (set_at c.nexts y (Gave (got_of gots.Nothing))) c.pipes) (sym k.1) h))
+  by_next q s (nexts.Gave got) due here by new h e k = subst (λ (d : Option Getting). WentBy t legal p c y d s (Gave (got_of got))) (sym k.0) (refl, new, (Gave (got_of gots.Nothing), subst (λ (w : Rows). RowsStand t w (set_at c.nexts y (Gave (got_of gots.Nothing))) c.pipes) (sym k.1) h))
   by_next q s (nexts.Asked ask) due here by new h e k = called q s (next_of (next_left (nexts.Asked ask))) ask due here h by new (λ i. ap (λ (a : Asking). next_of (next_left (nexts.Asked a))) i) e k
 
   -- THE NEXT OF AN ACTOR

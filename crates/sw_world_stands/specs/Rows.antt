@@ -15,7 +15,7 @@ use Rattle.sw_world_places.specs.Pipes.{Getting}
 use Rattle.sw_world_places.specs.Places.{Rows}
 use Rattle.sw_world_places.specs.declared.place.Place.{Place}
 use Rattle.sw_world_stands.specs.Asked.{bare_of, got_of, next_of}
-use Rattle.sw_world_stands.specs.New.{CarriesNew, NoLink, NextNew}
+use Rattle.sw_world_stands.specs.New.{CarriesNew, NoLink, GotNew, NextNew}
 
 -- what is next for an actor, its pipe, and the room there; links on their way are new
 pub record PlaceStands (t : Terms) (y : ActorId) (q : Place) (x : Pending) (ms : List Message) : Type 0 where
@@ -57,10 +57,11 @@ pub record OnlyPipes {S : Type 0} (c d : Core S) : Type 0 where
   pub feed : d.feed ≡ c.feed
   pub lost : d.lost ≡ c.lost
 
--- where no turn is due, a step of this actor does what was done; else a turn is due, and all but what is next for the actor is as it was
+-- where no turn is due, a step of this actor does what was done; else a turn is due, with a new link if it took one, and all but what
+-- is next for the actor is as it was
 abbrev pub WentBy : (t : Terms) → (List Ran → Type 0) → (p : Actors t) → Core p.State → ActorId → Option Getting → Rows → Pending → Type 0
 WentBy t legal p c y None s w = (o : Outcome p.State) → MayGo t legal p c y o w × (RowsStand t s (goes t p c y o w).nexts (goes t p c y o w).pipes × OnlyPipes c (goes t p c y o w))
-WentBy t legal p c y (Some got) s w = IsDue w (got_of got) × ((n : Pending) × RowsStand t s (set_at c.nexts y n) c.pipes)
+WentBy t legal p c y (Some got) s w = IsDue w (got_of got) × GotNew y got × ((n : Pending) × RowsStand t s (set_at c.nexts y n) c.pipes)
 
 -- by what is next for it
 abbrev pub Went : (t : Terms) → (List Ran → Type 0) → (p : Actors t) → Core p.State → ActorId → Option Getting → Rows → Type 0
