@@ -13,7 +13,7 @@ use Rattle.std.proofs.lemmas.Map.Text.{is_eq-slice_cmp}
 use Rattle.sw_settings.specs.declared.pair.SetValue.{SetValue}
 use Rattle.sw_settings.specs.declared.pair.Pair.{Pair}
 use Rattle.sw_settings.specs.Given.{given}
-use Rattle.sw_drill.specs.Pairs.{has_name, with_pair, AreNames}
+use Rattle.sw_set_lines.specs.Pairs.{has_name, with_pair, AreNames}
 
 -- ---- the names of pairs
 

@@ -1,7 +1,7 @@
 //! The pairs that lines of settings give.
 
 ghost use Rattle.std.specs.Prelude.{◌≡◌, [], ◌∷◌, ◌++◌, Some, None, IfOk, OnErr, false, if◌then◌else◌};
-ghost use Rattle.sw_drill.specs.Pairs.{has_name, with_pair, AreNames};
+ghost use Rattle.sw_set_lines.specs.Pairs.{has_name, with_pair, AreNames};
 
 use std::alloc::Global;
 use std::collections::BTreeSet;
@@ -20,7 +20,7 @@ pub struct Pairs {
 impl Model for Pairs {
     ghost use Rattle.std.specs.Prelude.{List};
     ghost use Rattle.sw_settings.specs.declared.pair.Pair.{Pair};
-    ghost use Rattle.sw_drill.specs.Pairs.{AreNames};
+    ghost use Rattle.sw_set_lines.specs.Pairs.{AreNames};
 
     ghost Value = { List Pair };
 

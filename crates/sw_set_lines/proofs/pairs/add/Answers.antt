@@ -1,8 +1,8 @@
 use Rattle.std.proofs.Common.{◌≡◌, ◌++◌, [], ◌∷◌, not, sym, ap, ◌∙◌}
 use Rattle.sw_settings.specs.declared.pair.Pair.{Pair}
-use Rattle.sw_drill.specs.Pairs.{has_name}
-use Rattle.sw_drill.proofs.NameLaw.{names_more, names_has, taken, new_pair}
-use Rattle.sw_drill.proofs.pairs.add.Goals as goal
+use Rattle.sw_set_lines.specs.Pairs.{has_name}
+use Rattle.sw_set_lines.proofs.NameLaw.{names_more, names_has, taken, new_pair}
+use Rattle.sw_set_lines.proofs.pairs.add.Goals as goal
 
 pub returns-then-not-branch-clause-ok : goal.returns-then-not-branch-clause-ok
 returns-then-not-branch-clause-ok c =
