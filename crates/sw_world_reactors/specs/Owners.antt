@@ -1,7 +1,6 @@
 -- The reactors of the core, each with its ends, and their turns over the plain ports.
 use Rattle.std.specs.Prelude.{◌≡◌, ◌≢◌, ℕ, ◌<◌, List, [], ◌∷◌, length, slice_get, slice_set, Option, Some, None, Result, Ok, Err}
-use Rattle.sw_lists.specs.Lists.{Each}
-use Rattle.sw_base.specs.declared.memory.OutOfMemory.{OutOfMemory}
+use Rattle.std.specs.List.{All}
 use Rattle.sw_conn.specs.declared.terms.Terms.{Terms}
 use Rattle.sw_frame.specs.declared.framing.Framing.{Framing}
 use Rattle.sw_link.specs.declared.memory_link.LinkStep.{LinkStep}
@@ -46,7 +45,7 @@ pub record IsNew (terms : Terms) (framing : Framing) (read_size : ℕ) (o : Owne
 
 -- so many of them
 abbrev pub AreNew : Terms → Framing → ℕ → ℕ → List Owner → Type 0
-AreNew terms framing read_size count all = (length all ≡ count) × Each (IsNew terms framing read_size) all
+AreNew terms framing read_size count all = (length all ≡ count) × All (IsNew terms framing read_size) all
 
 -- the one of this number is changed so, and all others stay
 abbrev pub AtOwner : List Owner → ℕ → (Owner → Owner → Type 0) → List Owner → Type 0
@@ -65,10 +64,10 @@ abbrev pub TurnsOwner : Owner → Getting → Words → PlainWords → Asking �
 TurnsOwner o got b w ask q c v = Turns core_ports o.reactor got b w o.ends ask q.reactor c v q.ends
 
 -- a step more for its link of this session, if it has one: the step is taken, or want of memory left all as it was
-abbrev pub AddsTo : ℕ → LinkStep → Option MemoryLink → Owner → Result (Option LinkStep) OutOfMemory → Owner → Type 0
+abbrev pub AddsTo : {F : Type 0} → ℕ → LinkStep → Option MemoryLink → Owner → Result (Option LinkStep) F → Owner → Type 0
 AddsTo s step None o result q = (result ≡ Ok (Some step)) × (q ≡ o)
 AddsTo s step (Some l) o (Ok left) q = (left ≡ None) × (q ≡ record o { reactor = record o.reactor { line = with_link o.reactor.line s (added step l) } })
 AddsTo s step (Some l) o (Err fault) q = q ≡ o
 
-abbrev pub Adds : ℕ → LinkStep → Owner → Result (Option LinkStep) OutOfMemory → Owner → Type 0
+abbrev pub Adds : {F : Type 0} → ℕ → LinkStep → Owner → Result (Option LinkStep) F → Owner → Type 0
 Adds s step o result q = AddsTo s step (link_of s o.reactor.line.conns) o result q
