@@ -51,3 +51,18 @@ module _ {N L K D C E : Type 0} (accepting : N → Accept L → N → Type 0) (c
   turn_keeps_door d net desk b f gots.Empty e net_new desk_new c g ask h = goes_on d net desk b f e net_new desk_new c g ask h
   turn_keeps_door d net desk b f gots.Pushed e net_new desk_new c g ask h = goes_on d net desk b f e net_new desk_new c g ask h
   turn_keeps_door d net desk b f gots.Nothing e net_new desk_new c g ask h = goes_on d net desk b f e net_new desk_new c g ask h
+
+-- what each accept keeps of a net, a turn keeps
+module _ {N L K D C E W : Type 0} (was : N → W) (accepting : N → Accept L → N → Type 0) (claiming : D → Result K ClaimFault → D → Type 0) (number : K → ℕ) (goes : Going C) (puts : E → L → Ended → Bool → E → Type 0) (keeps : (n : N) (a : Accept L) (m : N) → accepting n a m → was m ≡ was n) where
+  net_goes : (d : Door) (net : N) (desk : D) (b : C) (f : E) (e : Door) (net_new : N) (desk_new : D) (c : C) (g : E) (ask : Ask (Msg L K)) → GoesOn accepting claiming number goes puts d net desk b f e net_new desk_new c g ask → was net_new ≡ was net
+  net_goes d net desk b f e net_new desk_new c g ask h =
+      by_bool d.ending _ _ (was net_new ≡ was net) (λ k. ap was k.1)
+      (λ m. by_bool d.accepts _ _ (was net_new ≡ was net) (λ (x, (got, k)). keeps net x net_new got) (λ k. ap was k.1) m) h
+
+  pub turn_keeps_net : (d : Door) (net : N) (desk : D) (b : C) (f : E) (got : Got (Msg L K)) (e : Door) (net_new : N) (desk_new : D) (c : C) (g : E) (ask : Ask (Msg L K)) → Turns accepting claiming number goes puts d net desk b f got e net_new desk_new c g ask → was net_new ≡ was net
+  turn_keeps_net d net desk b f (gots.Full m) e net_new desk_new c g ask h = ap was h.2
+  turn_keeps_net d net desk b f gots.Start e net_new desk_new c g ask h = net_goes d net desk b f e net_new desk_new c g ask h
+  turn_keeps_net d net desk b f (gots.Took m) e net_new desk_new c g ask h = net_goes d net desk b f e net_new desk_new c g ask h
+  turn_keeps_net d net desk b f gots.Empty e net_new desk_new c g ask h = net_goes d net desk b f e net_new desk_new c g ask h
+  turn_keeps_net d net desk b f gots.Pushed e net_new desk_new c g ask h = net_goes d net desk b f e net_new desk_new c g ask h
+  turn_keeps_net d net desk b f gots.Nothing e net_new desk_new c g ask h = net_goes d net desk b f e net_new desk_new c g ask h

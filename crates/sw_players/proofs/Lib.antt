@@ -1,2 +1,4 @@
-pub mod Terms
 pub mod Doors
+pub mod Hands
+pub mod Tickets
+pub mod Terms

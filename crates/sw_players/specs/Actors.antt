@@ -6,9 +6,9 @@ use Rattle.sw_players.specs.Made.{Made, of_door, of_reactor, of_worker, of_taske
 use Rattle.sw_worker.specs.Generations.{made}
 
 module _ {N L J E H T : Type 0} where
-  -- its kind, and what its handlers were made with
-  abbrev pub actor_made : {A B : Type 0} → (H → A) → (T → B) → Actor N L J E H T → Made (List A) B
-  actor_made f g (Door p) = of_door
+  -- its kind, the door's net, and what handlers were made with
+  abbrev pub actor_made : {A B : Type 0} → (H → A) → (T → B) → Actor N L J E H T → Made N (List A) B
+  actor_made f g (Door p) = of_door p.net.was
   actor_made f g (Reactor p) = of_reactor
   actor_made f g (Worker p) = of_worker (made f p.worker.handler)
   actor_made f g (Tasker p) = of_tasker (g p.tasker.handler)

@@ -1,5 +1,5 @@
 pub mod Hears
-pub mod Lines
+pub mod Over
 pub mod Turns
 pub mod Made
 pub mod Actors

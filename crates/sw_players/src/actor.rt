@@ -1,8 +1,9 @@
 //! An actor of any kind, as the spawner runs them.
 
 use crate::door::DoorPlayer;
-use crate::hands::{TaskerPlayer, WorkerPlayer};
 use crate::reactor::ReactorPlayer;
+use crate::tasker::TaskerPlayer;
+use crate::worker::WorkerPlayer;
 use std::sync::Wait;
 use sw_handler::Handler;
 use sw_link::{Ends, Net};
@@ -27,7 +28,7 @@ where
     ghost use Rattle.sw_players.specs.Made.{Made};
     ghost use Rattle.sw_spawn.specs.Ends.{is_end};
 
-    ghost Made = { Made (List H.Made) T.Made };
+    ghost Made = { Made N (List H.Made) T.Made };
 
     ghost made = { actor_made H.made T.made };
 

@@ -1,23 +1,21 @@
 //! The door as a player.
 ghost use Rattle.std.specs.Prelude.{◌≡◌};
 ghost use Rattle.sw_board.specs.Values.{SeatGoes};
-ghost use Rattle.sw_data.specs.declared.messages.Ask.{Ask};
-ghost use Rattle.sw_data.specs.declared.messages.Msg.{Msg};
 ghost use Rattle.sw_door.specs.Door.{Turns};
-ghost use Rattle.sw_players.specs.Lines.{Calls, is_over};
+ghost use Rattle.sw_players.specs.Hears.{ListensAs};
 ghost use Rattle.sw_players.specs.Turns.{IsDoor};
-ghost use Rattle.sw_sessions.specs.Values.{TicketNow, ClerkClaims};
+ghost use Rattle.sw_sessions.specs.Values.{ClerkClaims};
 ghost use Rattle.sw_spawn.specs.Ends.{is_end};
 
-use crate::bell::Bells;
-use crate::lines::Lines;
+use crate::listening::Listening;
 use crate::went::{is_last, passed, target_of, went_of};
 use std::marker::Model;
 use std::mem::replace;
 use std::sync::Wait;
-use sw_data::{Got, Msg};
+use sw_data::{Ask, Got, Msg};
 use sw_door::Door;
 use sw_link::{Ends, Net};
+use sw_parts::{Bells, Lines};
 use sw_shared::{NamedClerk, NamedSeat, NamedTicket, Naming};
 use sw_spawn::Went;
 
@@ -25,7 +23,7 @@ use sw_spawn::Went;
 #[derive(Drop)]
 pub struct AtDoor<N: Net, J: Naming, E> {
     pub door: Door,
-    pub net: N,
+    pub net: Listening<N>,
     pub clerk: NamedClerk<J>,
     pub seat: NamedSeat<J>,
     pub ends: E,
@@ -41,24 +39,33 @@ impl<N: Net, J: Naming, E: Ends<N::Link>> AtDoor<N, J, E>
 where
     N::Link: Drop,
 {
-    /// One turn of the door, and the pipe call that it asked for.
-    pub fn step<R: Wait>(&mut self, rt: &R) -> Went
+    /// One turn of the door.
+    fn turn(&mut self) -> Ask<Msg<N::Link, NamedTicket<J>>>
         requires { IsDoor self.old.door }
-        ensures door { IsDoor self.new.door }
-        ensures over { self.new.over ≡ is_end result }
-        ensures turn { (ask : Ask (Msg N.Link TicketNow)) × Turns N.accept_gives ClerkClaims (λ t. t.number) SeatGoes E.put_gives
+        ensures turns { Turns (ListensAs N.accept_gives) ClerkClaims (λ t. t.number) SeatGoes E.put_gives
             self.old.door self.old.net self.old.clerk self.old.seat self.old.ends self.old.got
-            self.new.door self.new.net self.new.clerk self.new.seat self.new.ends ask
-            × Calls ask self.old.lines self.new.got self.new.lines × (self.new.over ≡ is_over ask) }
+            self.new.door self.new.net self.new.clerk self.new.seat self.new.ends result }
+        ensures door { IsDoor self.new.door }
+        ensures was { self.new.net.was ≡ self.old.net.was }
     {
         let got = replace(&mut self.got, Got::Nothing);
-        let ask = self.door.turn(
+        self.door.turn(
             got,
             &mut self.net,
             &mut self.clerk,
             &mut self.seat,
             &mut self.ends,
-        );
+        )
+    }
+
+    /// One turn of the door, and the pipe call that it asked for.
+    pub fn step<R: Wait>(&mut self, rt: &R) -> Went
+        requires { IsDoor self.old.door }
+        ensures door { IsDoor self.new.door }
+        ensures was { self.new.net.was ≡ self.old.net.was }
+        ensures over { self.new.over ≡ is_end result }
+    {
+        let ask = self.turn();
         let went = went_of(&ask);
         let to = target_of(&ask);
         self.got = self.lines.call(rt, ask);
@@ -115,12 +122,14 @@ where
 
     pub(crate) fn go<R: Wait>(&mut self, rt: &R) -> Went
         ensures over { self.new.over ≡ is_end result }
+        ensures was { self.new.net.was ≡ self.old.net.was }
     {
         self.inner.step(rt)
     }
 
     pub(crate) fn rest<R: Wait>(&mut self, rt: &R)
         ensures over { self.new.over ≡ self.old.over }
+        ensures was { self.new.net.was ≡ self.old.net.was }
     {
         self.inner.bells.rest(rt, 0);
     }

@@ -1,49 +1,48 @@
 //! A net that remembers whether an accept failed.
-ghost use Rattle.std.specs.Prelude.{◌≡◌, ◌≤◌, false, true, ℕ};
-ghost use Rattle.sw_link.specs.declared.net.Accept.{Accept};
-ghost use Rattle.sw_players.specs.Hears.{Hears, failed_by};
+ghost use Rattle.std.specs.Prelude.{◌≡◌, false};
+ghost use Rattle.sw_players.specs.Hears.{Hears, heard, failed_by};
 
-use std::marker::{Model, PhantomData};
+use std::marker::Model;
+use std::snapshot::Snapshot;
 use sw_link::{Accept, Net};
-use sw_shared::Naming;
 
-/// A net of the server that `J` names, and whether an accept of it failed: then its count rose since the server began. Contracts see
-/// the net, and whether.
+/// A net, and whether an accept of it failed since it was given: then its count rose. Contracts see the net, how it was given,
+/// and whether.
 #[derive(Drop)]
-pub struct Listening<N: Net, J: Naming> {
+pub struct Listening<N: Net> {
     net: N,
     failed: bool,
-    of: PhantomData<J>,
+    was: Snapshot<N>,
 }
 
-impl<N: Net, J: Naming> Model for Listening<N, J> {
-    ghost use Rattle.std.specs.Prelude.{◌≤◌, Bool};
-    ghost use Rattle.sw_players.specs.Hears.{Hears};
+impl<N: Net> Model for Listening<N> {
+    ghost use Rattle.sw_players.specs.Hears.{Heard, heard, Hears};
 
-    ghost Value = { N × Bool };
+    ghost Value = { Heard N };
 
-    ghost view = { λ l. (l.net, l.failed) };
+    ghost view = { λ l. heard l.was.value l.net l.failed };
 
-    ghost invariant = { λ l. Hears J.heard (N.faults l.net) l.failed };
+    ghost invariant = { λ l. Hears (N.faults l.was.value) (N.faults l.net) l.failed };
 }
 
-impl<N: Net, J: Naming> Listening<N, J> {
+impl<N: Net> Listening<N> {
     /// This net, before the server runs.
-    pub fn new(net: N) -> Listening<N, J>
-        requires { N.faults net ≡ J.heard }
-        ensures { result ≡ (net, false) }
+    pub fn new(net: N) -> Listening<N>
+        ensures { result ≡ heard net net false }
     {
+        let was = Snapshot::of(&net);
         Listening {
             net,
             failed: false,
-            of: PhantomData,
+            was,
         }
     }
 
     /// Gives the net away, and tells whether an accept of it failed.
     pub fn into_net(self) -> (N, bool)
-        ensures same { result ≡ self }
-        ensures hears { Hears J.heard (N.faults result.0) result.1 }
+        ensures net { result.0 ≡ self.net }
+        ensures failed { result.1 ≡ self.failed }
+        ensures hears { Hears (N.faults self.was) (N.faults result.0) result.1 }
     {
         let Listening { net, failed, .. } = self;
         (net, failed)
@@ -62,20 +61,20 @@ fn is_failed<L>(answer: &Accept<L>) -> bool
     }
 }
 
-impl<N: Net, J: Naming> Net for Listening<N, J> {
-    ghost use Rattle.sw_players.specs.Hears.{failed_by};
+impl<N: Net> Net for Listening<N> {
+    ghost use Rattle.sw_players.specs.Hears.{ListensAs};
 
     type Link = N::Link;
 
-    ghost coming = { λ l. N.coming l.0 };
+    ghost coming = { λ l. N.coming l.net };
 
-    ghost faults = { λ l. N.faults l.0 };
+    ghost faults = { λ l. N.faults l.net };
 
-    ghost accept_gives = { λ l a m. N.accept_gives l.0 a m.0 × (m.1 ≡ failed_by a l.1) };
+    ghost accept_gives = { ListensAs N.accept_gives };
 
-    ghost accepts_tell = { λ l m a gives. N.accepts_tell l.0 m.0 a gives.0 };
+    ghost accepts_tell = { λ l m a gives. N.accepts_tell l.net m.net a gives.0 };
 
-    ghost accepts_count = { λ l m a gives. N.accepts_count l.0 m.0 a gives.0 };
+    ghost accepts_count = { λ l m a gives. N.accepts_count l.net m.net a gives.0 };
 
     fn accept(&mut self) -> Accept<N::Link> {
         let answer = self.net.accept();

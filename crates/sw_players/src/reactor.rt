@@ -1,24 +1,20 @@
 //! A reactor as a player.
 ghost use Rattle.std.specs.Prelude.{◌≡◌};
 ghost use Rattle.sw_board.specs.Values.{SeatGoes};
-ghost use Rattle.sw_data.specs.declared.messages.Ask.{Ask};
-ghost use Rattle.sw_data.specs.declared.messages.Msg.{Msg};
 ghost use Rattle.sw_reactor.specs.Serving.{Turns, ports_of};
-ghost use Rattle.sw_players.specs.Lines.{Calls, is_over};
 ghost use Rattle.sw_players.specs.Turns.{IsReactor};
-ghost use Rattle.sw_sessions.specs.Values.{TicketNow, slots};
+ghost use Rattle.sw_sessions.specs.Values.{slots};
 ghost use Rattle.sw_shared.specs.Passes.{pass_looks, pass_releases};
 ghost use Rattle.sw_spawn.specs.Ends.{is_end};
 
-use crate::bell::Bells;
-use crate::lines::Lines;
 use crate::went::{is_last, passed, target_of, went_of};
 use std::alloc::Global;
 use std::marker::Model;
 use std::mem::replace;
 use std::sync::Wait;
-use sw_data::{Got, Msg};
+use sw_data::{Ask, Got, Msg};
 use sw_link::{Ends, Link};
+use sw_parts::{Bells, Lines};
 use sw_reactor::Reactor;
 use sw_shared::{NamedPass, NamedSeat, NamedTicket, Naming};
 use sw_spawn::Went;
@@ -40,24 +36,31 @@ pub struct Reacting<L, J: Naming, E> {
 }
 
 impl<L: Link + Drop, J: Naming, E: Ends<L>> Reacting<L, J, E> {
-    /// One turn of the reactor, and the pipe call that it asked for.
-    pub fn step<R: Wait>(&mut self, rt: &R) -> Went
+    /// One turn of the reactor.
+    fn turn(&mut self) -> Ask<Msg<L, NamedTicket<J>>>
         requires { IsReactor (λ t. t.number) (slots J.book) J.board.sizes self.old.reactor }
+        ensures turns { Turns (ports_of (λ t. t.number) L.read_gives L.write_gives pass_looks pass_releases SeatGoes (λ s. J.board.sizes) E.put_gives)
+            self.old.reactor self.old.got self.old.pass self.old.seat self.old.ends result
+            self.new.reactor self.new.pass self.new.seat self.new.ends }
         ensures reactor { IsReactor (λ t. t.number) (slots J.book) J.board.sizes self.new.reactor }
-        ensures over { self.new.over ≡ is_end result }
-        ensures turn { (ask : Ask (Msg L TicketNow)) × Turns (ports_of (λ t. t.number) L.read_gives L.write_gives pass_looks pass_releases SeatGoes (λ s. J.board.sizes) E.put_gives)
-            self.old.reactor self.old.got self.old.pass self.old.seat self.old.ends ask
-            self.new.reactor self.new.pass self.new.seat self.new.ends
-            × Calls ask self.old.lines self.new.got self.new.lines × (self.new.over ≡ is_over ask) }
     {
         let got = replace(&mut self.got, Got::Nothing);
-        let ask = self.reactor.turn(
+        self.reactor.turn(
             self.alloc,
             got,
             &mut self.pass,
             &mut self.seat,
             &mut self.ends,
-        );
+        )
+    }
+
+    /// One turn of the reactor, and the pipe call that it asked for.
+    pub fn step<R: Wait>(&mut self, rt: &R) -> Went
+        requires { IsReactor (λ t. t.number) (slots J.book) J.board.sizes self.old.reactor }
+        ensures reactor { IsReactor (λ t. t.number) (slots J.book) J.board.sizes self.new.reactor }
+        ensures over { self.new.over ≡ is_end result }
+    {
+        let ask = self.turn();
         let went = went_of(&ask);
         let to = target_of(&ask);
         self.got = self.lines.call(rt, ask);

@@ -1,6 +1,6 @@
 //! How a turn went, by what the actor asked for.
 ghost use Rattle.std.specs.Prelude.{◌≡◌};
-ghost use Rattle.sw_players.specs.Lines.{is_over};
+ghost use Rattle.sw_players.specs.Over.{is_over};
 ghost use Rattle.sw_spawn.specs.Ends.{is_end};
 
 use sw_data::{Ask, Got, Target};

@@ -1,7 +1,7 @@
 //! The board and the Table of a server.
 ghost use Rattle.std.specs.Prelude.{◌≡◌, All, IfOk};
 ghost use Rattle.std.specs.Arc.{arc_value};
-ghost use Rattle.sw_run.specs.Boards.{board_of};
+ghost use Rattle.sw_parts.specs.Boards.{board_of};
 ghost use Rattle.sw_settings.specs.Columns.{columns_named};
 ghost use Rattle.sw_table_join.specs.Tables.{IsReady, IsHandsOf};
 
@@ -11,7 +11,7 @@ use sw_base::OutOfMemory;
 use sw_settings::Settings;
 
 /// The seats of the board of all actors.
-pub(crate) fn make_board(
+pub fn make_board(
     alloc: Global,
     settings: &Settings,
 ) -> Result<Vec<sw_board::Seat>, OutOfMemory>
@@ -24,7 +24,7 @@ pub(crate) fn make_board(
 }
 
 /// The Table, the hands that make its seats, and a first seat.
-pub(crate) fn make_table(
+pub fn make_table(
     alloc: Global,
     settings: &Settings,
 ) -> Result<

@@ -7,20 +7,20 @@ use std::alloc::Global;
 use sw_base::OutOfMemory;
 use sw_board::Seat;
 use sw_pipe::{Sender, Taker};
-use sw_players::Lines;
+use crate::lines::Lines;
 use sw_settings::Settings;
 use sw_shared::{NamedClerk, NamedSeat, Naming, Stands};
 
 /// What one kind of actors takes from, and the rows of its senders.
 #[derive(Drop)]
-pub(crate) struct Pipes<M> {
+pub struct Pipes<M> {
     pub takers: Vec<Taker<M>>,
     pub rows: Vec<Vec<Sender<M>>>,
 }
 
 /// The pipes of all actors. Senders are numbered in the order of workers, task workers, reactors and the door.
 #[derive(Drop)]
-pub(crate) struct AllPipes<M> {
+pub struct AllPipes<M> {
     pub reactors: Pipes<M>,
     pub workers: Pipes<M>,
     pub taskers: Pipes<M>,
@@ -28,7 +28,7 @@ pub(crate) struct AllPipes<M> {
 
 /// What is left of the parts that actors are made of.
 #[derive(Drop)]
-pub(crate) struct Parts<M, J: Naming> {
+pub struct Parts<M, J: Naming> {
     pub pipes: AllPipes<M>,
     pub clerk: NamedClerk<J>,
     pub seats: Vec<NamedSeat<J>>,
@@ -37,7 +37,7 @@ pub(crate) struct Parts<M, J: Naming> {
 }
 
 /// Takes the first of a list, which has one.
-pub(crate) fn first<X: Drop>(items: &mut Vec<X>) -> Result<X, OutOfMemory> {
+pub fn first<X: Drop>(items: &mut Vec<X>) -> Result<X, OutOfMemory> {
     if items.len() == 0 {
         return Err(OutOfMemory);
     }
@@ -58,7 +58,7 @@ fn make_pipes<M: Drop>(
 }
 
 /// The pipes of all actors.
-pub(crate) fn all_pipes<M: Drop>(
+pub fn all_pipes<M: Drop>(
     alloc: Global,
     settings: &Settings,
 ) -> Result<AllPipes<M>, OutOfMemory> {
@@ -75,7 +75,7 @@ pub(crate) fn all_pipes<M: Drop>(
 
 impl<M: Drop> AllPipes<M> {
     /// The ends of a worker.
-    pub(crate) fn of_worker(&mut self, alloc: Global) -> Result<Lines<M>, OutOfMemory> {
+    pub fn of_worker(&mut self, alloc: Global) -> Result<Lines<M>, OutOfMemory> {
         Ok(Lines {
             taker: Some(first(&mut self.workers.takers)?),
             reactors: first(&mut self.reactors.rows)?,
@@ -85,7 +85,7 @@ impl<M: Drop> AllPipes<M> {
     }
 
     /// The ends of a task worker.
-    pub(crate) fn of_tasker(&mut self, alloc: Global) -> Result<Lines<M>, OutOfMemory> {
+    pub fn of_tasker(&mut self, alloc: Global) -> Result<Lines<M>, OutOfMemory> {
         Ok(Lines {
             taker: Some(first(&mut self.taskers.takers)?),
             reactors: first(&mut self.reactors.rows)?,
@@ -95,7 +95,7 @@ impl<M: Drop> AllPipes<M> {
     }
 
     /// The ends of a reactor.
-    pub(crate) fn of_reactor(&mut self, alloc: Global) -> Result<Lines<M>, OutOfMemory> {
+    pub fn of_reactor(&mut self, alloc: Global) -> Result<Lines<M>, OutOfMemory> {
         Ok(Lines {
             taker: Some(first(&mut self.reactors.takers)?),
             reactors: Vec::new(alloc),
@@ -105,7 +105,7 @@ impl<M: Drop> AllPipes<M> {
     }
 
     /// The ends of the door.
-    pub(crate) fn of_door(&mut self, alloc: Global) -> Result<Lines<M>, OutOfMemory> {
+    pub fn of_door(&mut self, alloc: Global) -> Result<Lines<M>, OutOfMemory> {
         Ok(Lines {
             taker: None,
             reactors: first(&mut self.reactors.rows)?,
@@ -116,7 +116,7 @@ impl<M: Drop> AllPipes<M> {
 }
 
 /// The seats of a board, as those of the board that is named.
-pub(crate) fn named_seats<J: Naming>(
+pub fn named_seats<J: Naming>(
     alloc: Global,
     seats: Vec<Seat>,
 ) -> Result<Vec<NamedSeat<J>>, OutOfMemory>

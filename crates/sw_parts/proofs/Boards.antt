@@ -3,7 +3,7 @@ use Rattle.std.proofs.Common.{◌≡◌, ◌<◌, ◌≤◌, ℕ, zero, suc, All
 use Rattle.std.proofs.lemmas.List.Elements.{All-append}
 use Rattle.sw_board.specs.Values.{BoardId, SeatNow, seat_now, fresh_seats, AreFresh}
 use Rattle.sw_port_board.specs.declared.crew.Sizes.{Sizes}
-use Rattle.sw_run.specs.Boards.{board_of}
+use Rattle.sw_parts.specs.Boards.{board_of}
 
 one : {X : Type 0} (P : X → Type 0) (x : X) → P x → All P (x ∷ [])
 one P x p zero d lt = p

@@ -1,5 +1,5 @@
 -- What the pipe call comes to that an actor asked for.
-use Rattle.std.specs.Prelude.{◌≡◌, ◌≤◌, ℕ, Bool, true, false, List, [], ◌∷◌, ◌++◌, length, slice_get, slice_set, Option, None, Some}
+use Rattle.std.specs.Prelude.{◌≡◌, ◌≤◌, ℕ, true, List, [], ◌∷◌, ◌++◌, length, slice_get, slice_set, Option, None, Some}
 use Rattle.std.specs.Option.{MatchOption}
 use Rattle.sw_data.specs.declared.messages.Ask.{Ask}
 use Rattle.sw_data.specs.declared.messages.Ask.TheVariants as asks
@@ -9,7 +9,7 @@ use Rattle.sw_data.specs.declared.messages.Target.{Target}
 use Rattle.sw_data.specs.declared.messages.Target.TheVariants as targets
 use Rattle.sw_pipe.specs.Mails.{AllTaken}
 use Rattle.sw_pipe.specs.Values.{Pushed, Took, mail}
-use Rattle.sw_players.specs.declared.lines.Lines.{Lines}
+use Rattle.sw_parts.specs.declared.lines.Lines.{Lines}
 
 -- a push: the message is behind those that were pushed, or it came back
 abbrev pub PushGives : {M : Type 0} → Pushed M → M → Got M → Pushed M → Type 0
@@ -52,11 +52,3 @@ Calls (asks.Push to m) l got k = PushesTo l to m got k
 Calls asks.Nothing l got k = (got ≡ gots.Nothing) × (k ≡ l)
 Calls asks.Rest l got k = (got ≡ gots.Nothing) × (k ≡ l)
 Calls asks.Finished l got k = (got ≡ gots.Nothing) × (k ≡ l)
-
--- an actor that asked for nothing more is finished
-abbrev pub is_over : {M : Type 0} → Ask M → Bool
-is_over asks.Take = false
-is_over (asks.Push to m) = false
-is_over asks.Nothing = false
-is_over asks.Rest = false
-is_over asks.Finished = true

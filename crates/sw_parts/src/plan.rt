@@ -7,7 +7,7 @@ use sw_hand::House;
 use sw_settings::Settings;
 
 /// What a connection goes by.
-pub(crate) fn terms_of(settings: &Settings) -> Terms
+pub fn terms_of(settings: &Settings) -> Terms
     ensures max_conn { result.max_conn ≡ settings.now.max_conn }
     ensures workers { result.worker_num ≡ settings.now.worker_num }
     ensures some { (0 < result.max_conn) × (0 < result.worker_num) }
@@ -22,7 +22,7 @@ pub(crate) fn terms_of(settings: &Settings) -> Terms
 }
 
 /// What a hand goes by.
-pub(crate) fn house_of(settings: &Settings) -> House
+pub fn house_of(settings: &Settings) -> House
     ensures house { IsHouse result }
     ensures workers { result.workers ≡ settings.now.worker_num }
     ensures taskers { result.taskers ≡ settings.now.task_worker_num }

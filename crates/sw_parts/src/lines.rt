@@ -1,6 +1,6 @@
 //! An actor's ends of the pipes.
 ghost use Rattle.std.specs.Prelude.{◌≡◌};
-ghost use Rattle.sw_players.specs.Lines.{PushGives, TakeGives, PushesAt, TakesOf, PushesTo, Calls};
+ghost use Rattle.sw_parts.specs.Lines.{PushGives, TakeGives, PushesAt, TakesOf, PushesTo, Calls};
 
 use std::sync::Wait;
 use sw_data::{Ask, Got, Target};

@@ -2,11 +2,11 @@
 
 use std::alloc::Global;
 use sw_base::OutOfMemory;
-use sw_players::{Bell, Bells};
+use crate::bell::{Bell, Bells};
 
 /// The bells of all players but the door, by their kinds and numbers.
 #[derive(Drop)]
-pub(crate) struct Bellboard {
+pub struct Bellboard {
     pub reactors: Vec<Bell>,
     pub workers: Vec<Bell>,
     pub taskers: Vec<Bell>,
@@ -45,7 +45,7 @@ const SHORT: u64 = 10;
 const LONG: u64 = 100;
 
 impl Bellboard {
-    pub(crate) fn make(
+    pub fn make(
         alloc: Global,
         reactors: u32,
         workers: u32,
@@ -71,25 +71,25 @@ impl Bellboard {
     }
 
     /// Those of the door.
-    pub(crate) fn of_door(&self, alloc: Global) -> Result<Bells, OutOfMemory> {
+    pub fn of_door(&self, alloc: Global) -> Result<Bells, OutOfMemory> {
         let own = Bell::new(alloc)?;
         self.with(alloc, own, SHORT)
     }
 
     /// Those of a reactor.
-    pub(crate) fn of_reactor(&self, alloc: Global, number: u32) -> Result<Bells, OutOfMemory> {
+    pub fn of_reactor(&self, alloc: Global, number: u32) -> Result<Bells, OutOfMemory> {
         let own = own(alloc, &self.reactors, number)?;
         self.with(alloc, own, SHORT)
     }
 
     /// Those of a worker.
-    pub(crate) fn of_worker(&self, alloc: Global, number: u32) -> Result<Bells, OutOfMemory> {
+    pub fn of_worker(&self, alloc: Global, number: u32) -> Result<Bells, OutOfMemory> {
         let own = own(alloc, &self.workers, number)?;
         self.with(alloc, own, LONG)
     }
 
     /// Those of a task worker.
-    pub(crate) fn of_tasker(&self, alloc: Global, number: u32) -> Result<Bells, OutOfMemory> {
+    pub fn of_tasker(&self, alloc: Global, number: u32) -> Result<Bells, OutOfMemory> {
         let own = own(alloc, &self.taskers, number)?;
         self.with(alloc, own, LONG)
     }
