@@ -1,8 +1,8 @@
 //! The bells of all players.
 
+use crate::bell::{Bell, Bells};
 use std::alloc::Global;
 use sw_base::OutOfMemory;
-use crate::bell::{Bell, Bells};
 
 /// The bells of all players but the door, by their kinds and numbers.
 #[derive(Drop)]

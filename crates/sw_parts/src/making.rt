@@ -11,10 +11,7 @@ use sw_base::OutOfMemory;
 use sw_settings::Settings;
 
 /// The seats of the board of all actors.
-pub fn make_board(
-    alloc: Global,
-    settings: &Settings,
-) -> Result<Vec<sw_board::Seat>, OutOfMemory>
+pub fn make_board(alloc: Global, settings: &Settings) -> Result<Vec<sw_board::Seat>, OutOfMemory>
     ensures { IfOk result (λ seats. All (λ s. s.board ≡ board_of seats.items) seats.items × ((board_of seats.items).sizes.workers ≡ settings.now.worker_num) × ((board_of seats.items).sizes.taskers ≡ settings.now.task_worker_num)) }
 {
     let workers = settings.worker_num();

@@ -2,12 +2,12 @@
 ghost use Rattle.std.specs.Prelude.{◌≡◌, ◌≤◌, ◌<◌, All};
 
 use crate::bellboard::Bellboard;
+use crate::lines::Lines;
 use crate::mesh::mesh;
 use std::alloc::Global;
 use sw_base::OutOfMemory;
 use sw_board::Seat;
 use sw_pipe::{Sender, Taker};
-use crate::lines::Lines;
 use sw_settings::Settings;
 use sw_shared::{NamedClerk, NamedSeat, Naming, Stands};
 
@@ -58,10 +58,7 @@ fn make_pipes<M: Drop>(
 }
 
 /// The pipes of all actors.
-pub fn all_pipes<M: Drop>(
-    alloc: Global,
-    settings: &Settings,
-) -> Result<AllPipes<M>, OutOfMemory> {
+pub fn all_pipes<M: Drop>(alloc: Global, settings: &Settings) -> Result<AllPipes<M>, OutOfMemory> {
     let capacity = settings.pipe_capacity();
     let reactors = settings.reactor_num();
     let workers = settings.worker_num();

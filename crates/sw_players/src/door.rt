@@ -86,7 +86,7 @@ impl<N: Net, J: Naming, E> Model for DoorPlayer<N, J, E> {
     ghost use Rattle.sw_players.specs.declared.door.AtDoor.{AtDoor};
     ghost use Rattle.sw_players.specs.Turns.{IsDoor};
 
-    ghost Value = { AtDoor N J E };
+    ghost Value = { AtDoor N J E N.Link };
 
     ghost view = { λ p. p.inner };
 

@@ -66,9 +66,15 @@ fn with_load(words: LoadWords, name: &[u8], value: &[u8]) -> Option<LoadWords>
     if is(name, "--seed") {
         seed_named(words, unset(words.seed, number_within(value, 0, u64::MAX)))
     } else if is(name, "--connections") {
-        connections_named(words, unset(words.connections, number_within(value, 1, 1_024)))
+        connections_named(
+            words,
+            unset(words.connections, number_within(value, 1, 1_024)),
+        )
     } else if is(name, "--packets") {
-        packets_named(words, unset(words.packets, number_within(value, 1, 1_000_000)))
+        packets_named(
+            words,
+            unset(words.packets, number_within(value, 1, 1_000_000)),
+        )
     } else {
         None
     }
