@@ -1,0 +1,108 @@
+//! The players that came back, by their kinds.
+ghost use Rattle.std.specs.Prelude.{◌≡◌, [], IfOk, OnOk};
+ghost use Rattle.sw_players.specs.Turns.{IsDoor, IsReactor};
+ghost use Rattle.sw_sessions.specs.Values.{slots};
+ghost use Rattle.sw_sweep.specs.Sorted.{DoorMore, ReactorMore, WorkerMore, TaskerMore, More, Sorted};
+
+use std::alloc::Global;
+use sw_base::OutOfMemory;
+use sw_handler::Handler;
+use sw_link::{Ends, Net};
+use sw_players::{Actor, AtDoor, Reacting, Tasking, Working};
+use sw_shared::Naming;
+
+/// All that came back, by kinds, each in the order of its numbers.
+#[derive(Drop)]
+pub struct Crew<N: Net, J: Naming, E, H, T> {
+    pub doors: Vec<AtDoor<N, J, E>>,
+    pub reactors: Vec<Reacting<N::Link, J, E>>,
+    pub workers: Vec<Working<N::Link, J, H>>,
+    pub taskers: Vec<Tasking<N::Link, J, T>>,
+}
+
+impl<N: Net + Drop, J: Naming, E: Ends<N::Link> + Drop, H: Handler + Drop, T: Handler + Drop> Crew<
+    N,
+    J,
+    E,
+    H,
+    T,
+>
+where
+    N::Link: Drop,
+{
+    /// Nobody.
+    fn new(alloc: Global) -> Crew<N, J, E, H, T>
+        ensures doors { result.doors.items ≡ [] }
+        ensures reactors { result.reactors.items ≡ [] }
+        ensures workers { result.workers.items ≡ [] }
+        ensures taskers { result.taskers.items ≡ [] }
+    {
+        Crew {
+            doors: Vec::new(alloc),
+            reactors: Vec::new(alloc),
+            workers: Vec::new(alloc),
+            taskers: Vec::new(alloc),
+        }
+    }
+
+    fn add_door(&mut self, one: AtDoor<N, J, E>) -> Result<(), OutOfMemory>
+        requires { IsDoor one.door }
+        ensures { OnOk result (DoorMore one self.old self.new) }
+    {
+        self.doors.push(one)?;
+        Ok(())
+    }
+
+    fn add_reactor(&mut self, one: Reacting<N::Link, J, E>) -> Result<(), OutOfMemory>
+        requires { IsReactor (λ t. t.number) (slots J.book) J.board.sizes one.reactor }
+        ensures { OnOk result (ReactorMore (slots J.book) J.board.sizes one self.old self.new) }
+    {
+        self.reactors.push(one)?;
+        Ok(())
+    }
+
+    fn add_worker(&mut self, one: Working<N::Link, J, H>) -> Result<(), OutOfMemory>
+        ensures { OnOk result (WorkerMore one self.old self.new) }
+    {
+        self.workers.push(one)?;
+        Ok(())
+    }
+
+    fn add_tasker(&mut self, one: Tasking<N::Link, J, T>) -> Result<(), OutOfMemory>
+        ensures { OnOk result (TaskerMore one self.old self.new) }
+    {
+        self.taskers.push(one)?;
+        Ok(())
+    }
+
+    fn add(&mut self, player: Actor<N, J, E, H, T>) -> Result<(), OutOfMemory>
+        ensures { OnOk result (More (slots J.book) J.board.sizes player self.old self.new) }
+    {
+        match player {
+            Actor::Door(one) => self.add_door(one.into_inner()),
+            Actor::Reactor(one) => self.add_reactor(one.into_inner()),
+            Actor::Worker(one) => self.add_worker(one.into_inner()),
+            Actor::Tasker(one) => self.add_tasker(one.into_inner()),
+        }
+    }
+}
+
+/// Sorts players by their kinds.
+#[tactic(auto, using(crate::proofs::Sorting::sorted_none, crate::proofs::Sorting::sorted_more))]
+pub fn sort<
+    N: Net + Drop,
+    J: Naming,
+    E: Ends<N::Link> + Drop,
+    H: Handler + Drop,
+    T: Handler + Drop,
+>(alloc: Global, players: Vec<Actor<N, J, E, H, T>>) -> Result<Crew<N, J, E, H, T>, OutOfMemory>
+where
+    N::Link: Drop,
+    ensures { IfOk result (λ c. Sorted (slots J.book) J.board.sizes players.items c) }
+{
+    let mut crew = Crew::new(alloc);
+    for player in players {
+        crew.add(player)?;
+    }
+    Ok(crew)
+}
