@@ -1,4 +1,3 @@
-pub mod Boards
-pub mod Plans
 pub mod Counts
+pub mod LinedUp
 pub mod Ran

@@ -2,7 +2,7 @@
 ghost use Rattle.std.specs.Prelude.{◌≡◌, map, length};
 ghost use Rattle.sw_run.specs.Counts.{or_next, generations, miscount};
 
-use crate::stopped::Part;
+use crate::faults::Part;
 use sw_settings::Settings;
 
 /// What the caller gives to a run.

@@ -1,29 +1,29 @@
 //! The server, from its settings to what it leaves.
-ghost use Rattle.std.specs.Prelude.{◌≡◌, ◌≤◌, None, All, map, length};
+ghost use Rattle.std.specs.Prelude.{◌≡◌, ◌≤◌, None, All, IfOk, map, length};
 ghost use Rattle.std.specs.Arc.{arc_value};
+ghost use Rattle.sw_parts.specs.Plans.{IsPlanned};
+ghost use Rattle.sw_players.specs.Actors.{actor_made};
 ghost use Rattle.sw_run.specs.Counts.{miscount};
-ghost use Rattle.sw_run.specs.Plans.{IsPlanned};
-ghost use Rattle.sw_run.specs.Ran.{Ends};
+ghost use Rattle.sw_run.specs.Ran.{EndsBy, FellShort, GivesBack, told};
 ghost use Rattle.sw_sessions.specs.Values.{slots};
 ghost use Rattle.sw_table_join.specs.Tables.{IsReady, IsHandsOf};
 
-use crate::bellboard::Bellboard;
 use crate::counting::{Given, miscount};
-use crate::finishing::finish;
-use crate::making::{make_board, make_table};
-use crate::parts::{Parts, all_pipes, named_seats};
+use crate::faults::ServeFault;
 use crate::players::assemble;
-use crate::sorting::sort;
-use crate::stopped::{ServeFault, Stopped};
 use std::alloc::Global;
 use std::marker::Brand;
 use std::sync::{Arc, Wait};
 use std::thread::Threads;
+use sw_base::OutOfMemory;
 use sw_handler::Handler;
-use sw_link::{Ends as LinkEnds, Net};
+use sw_link::{Ends, Net};
+use sw_parts::{Bellboard, Parts, all_pipes, make_board, make_table, named_seats};
+use sw_players::Actor;
 use sw_settings::Settings;
 use sw_shared::{NamedClerk, Naming, Stands};
 use sw_spawn::{Ran, Spawner};
+use sw_sweep::{Stopped, finish};
 
 /// Runs a server with these settings over this net, and gives back what is left of it. `ends` are those of the reactors, and the door's
 /// behind them; each worker has its handlers one behind the other. It waits until all actors are finished, or the spawner gives up.
@@ -33,7 +33,7 @@ use sw_spawn::{Ran, Spawner};
 /// actor or a pipe still held went to the ends with the cause Stop. Want of memory loses what was given.
 pub fn run_server<
     N: Net + Drop + Send + 'static,
-    E: LinkEnds<N::Link> + Drop + Send + 'static,
+    E: Ends<N::Link> + Drop + Send + 'static,
     H: Handler + Drop + Send + 'static,
     T: Handler + Drop + Send + 'static,
     P: Spawner,
@@ -50,7 +50,8 @@ pub fn run_server<
 ) -> Result<Stopped<N, E, H, T>, ServeFault<N, E, H, T>>
 where
     N::Link: Drop + Send + 'static,
-    ensures ends { Ends (miscount settings.now (length ends.items) (map (λ w. length w.items) workers.items) (length taskers.items)) N.faults net (P.count spawner.old) (P.count spawner.new) result }
+    ensures ends { EndsBy (miscount settings.now (length ends.items) (map (λ w. length w.items) workers.items) (length taskers.items)) N.faults net (P.count spawner.old) (P.count spawner.new) result }
+    ensures handlers { GivesBack H.made T.made (map (λ hs. map H.made hs.items) workers.items) (map T.made taskers.items) result }
     ensures count { P.count spawner.old ≤ P.count spawner.new }
 {
     let given = Given {
@@ -68,7 +69,7 @@ where
 /// Runs a server that has all that it needs.
 fn run_counted<
     N: Net + Drop + Send + 'static,
-    E: LinkEnds<N::Link> + Drop + Send + 'static,
+    E: Ends<N::Link> + Drop + Send + 'static,
     H: Handler + Drop + Send + 'static,
     T: Handler + Drop + Send + 'static,
     P: Spawner,
@@ -82,7 +83,8 @@ fn run_counted<
 ) -> Result<Stopped<N, E, H, T>, ServeFault<N, E, H, T>>
 where
     N::Link: Drop + Send + 'static,
-    ensures ends { Ends None N.faults given.net (P.count spawner.old) (P.count spawner.new) result }
+    ensures ends { EndsBy None N.faults given.net (P.count spawner.old) (P.count spawner.new) result }
+    ensures handlers { GivesBack H.made T.made (map (λ hs. map H.made hs.items) given.workers.items) (map T.made given.taskers.items) result }
     ensures count { P.count spawner.old ≤ P.count spawner.new }
 {
     let clerk = sw_sessions::make(alloc, settings.max_conn(), settings.session_last())?;
@@ -93,10 +95,56 @@ where
     )
 }
 
+/// Runs the players, and says whether the run fell short.
+fn play<
+    N: Net + Drop + Send + 'static,
+    J: Naming + Send + 'static,
+    E: Ends<N::Link> + Drop + Send + 'static,
+    H: Handler + Drop + Send + 'static,
+    T: Handler + Drop + Send + 'static,
+    P: Spawner,
+    R: Threads + Wait + Copy + Send + 'static,
+>(
+    rt: R,
+    alloc: Global,
+    players: Vec<Actor<N, J, E, H, T>>,
+    spawner: &mut P,
+) -> Result<(Vec<Actor<N, J, E, H, T>>, bool), OutOfMemory>
+where
+    N::Link: Drop + Send + 'static,
+    ensures made { IfOk result (λ r. map (actor_made H.made T.made) r.0.items ≡ map (actor_made H.made T.made) players.items) }
+    ensures short { IfOk result (λ r. FellShort r.1 (P.count spawner.old) (P.count spawner.new)) }
+    ensures count { P.count spawner.old ≤ P.count spawner.new }
+{
+    match spawner.run(rt, alloc, players) {
+        Ran::All(players) => Ok((players, false)),
+        Ran::Failed(players) => Ok((players, true)),
+        Ran::OutOfMemory => Err(OutOfMemory),
+    }
+}
+
+/// What a run came to.
+fn told<N, E, H, T>(
+    stopped: Stopped<N, E, H, T>,
+    short: bool,
+    deaf: bool,
+) -> Result<Stopped<N, E, H, T>, ServeFault<N, E, H, T>>
+    ensures { result ≡ told stopped short deaf }
+{
+    if short {
+        Err(ServeFault::StartFault(stopped))
+    } else if deaf {
+        Err(ServeFault::ListenFault(stopped))
+    } else {
+        Ok(stopped)
+    }
+}
+
 /// Makes all, runs it, and puts together what came back.
+#[tactic(auto, using(crate::proofs::Telling::told_ends, crate::proofs::Telling::told_gives, crate::proofs::Telling::hears_of, crate::proofs::Telling::has_back))]
 fn run_named<
     N: Net + Drop + Send + 'static,
-    E: LinkEnds<N::Link> + Drop + Send + 'static,
+    E: Ends<N::Link> + Drop + Send + 'static,
     H: Handler + Drop + Send + 'static,
     T: Handler + Drop + Send + 'static,
     P: Spawner,
@@ -122,8 +170,8 @@ where
     requires table { arc_value table ≡ J.table }
     requires hands { IsHandsOf J.table hands }
     requires seat { IsReady J.table 1 seat }
-    requires heard { N.faults given.net ≡ J.heard }
-    ensures ends { Ends None N.faults given.net (P.count spawner.old) (P.count spawner.new) result }
+    ensures ends { EndsBy None N.faults given.net (P.count spawner.old) (P.count spawner.new) result }
+    ensures handlers { GivesBack H.made T.made (map (λ hs. map H.made hs.items) given.workers.items) (map T.made given.taskers.items) result }
     ensures count { P.count spawner.old ≤ P.count spawner.new }
 {
     let parts = Parts {
@@ -139,18 +187,8 @@ where
         )?,
     };
     let (players, stands) = assemble(alloc, settings, given, parts)?;
-    let (players, failed) = match spawner.run(rt, alloc, players) {
-        Ran::All(players) => (players, false),
-        Ran::Failed(players) => (players, true),
-        Ran::OutOfMemory => return Err(ServeFault::OutOfMemory),
-    };
-    let crew = sort(alloc, players)?;
-    let (stopped, deaf) = finish(&rt, alloc, settings, crew, stands)?;
-    if failed {
-        return Err(ServeFault::StartFault(stopped));
-    }
-    if deaf {
-        return Err(ServeFault::ListenFault(stopped));
-    }
-    Ok(stopped)
+    let (players, short) = play(rt, alloc, players, spawner)?;
+    let rows = settings.schema().len() > 0;
+    let (stopped, deaf) = finish(&rt, alloc, rows, players, stands)?;
+    told(stopped, short, deaf)
 }
