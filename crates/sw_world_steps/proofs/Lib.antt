@@ -1,0 +1,5 @@
+pub mod Still
+pub mod Same
+pub mod Door
+pub mod Reactors
+pub mod Hands
