@@ -6,5 +6,5 @@ mod runs;
 #[cfg(test)]
 mod tests;
 
-pub use player::{Played, Player, play};
-pub use runs::{Outcome, run};
+pub use player::{Played, Player, ask, play};
+pub use runs::{Outcome, new_players, run};

@@ -27,8 +27,8 @@ pub struct Player {
 /// What came of a player.
 pub type Played = Result<Player, OutOfMemory>;
 
-// Makes a call.
-fn ask<R: Wait>(
+/// Makes a call, by a counted seat.
+pub fn ask<R: Wait>(
     rt: &R,
     table: &Table,
     seat: &mut Seat,
@@ -73,12 +73,7 @@ fn line(
 }
 
 // Makes a call, and keeps its line where it has a place.
-fn make<R: Wait>(
-    rt: &R,
-    table: &Table,
-    player: &mut Player,
-    call: &Call,
-) -> Result<(), OutOfMemory>
+fn make<R: Wait>(rt: &R, table: &Table, player: &mut Player, call: &Call) -> Result<(), OutOfMemory>
     requires { IsPlayer table.now player.old }
     ensures { IfOk result (λ _. IsPlayer table.now player.new) }
 {

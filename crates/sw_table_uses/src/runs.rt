@@ -26,8 +26,8 @@ pub struct Outcome {
     pub plain: Plain,
 }
 
-// So many players, called by the numbers from 0.
-fn players(
+/// So many players, called by the numbers from 0.
+pub fn new_players(
     alloc: Global,
     table: &Table,
     schema: &Schema,
@@ -57,7 +57,11 @@ fn players(
 }
 
 // Puts lines behind those that are there.
-fn add_lines(lines: &mut TraceLines, more: Vec<TraceLine>, columns: &Schema) -> Result<(), OutOfMemory>
+fn add_lines(
+    lines: &mut TraceLines,
+    more: Vec<TraceLine>,
+    columns: &Schema,
+) -> Result<(), OutOfMemory>
     requires lines { All (FitsColumns columns.now) lines.old }
     requires more { All (FitsColumns columns.now) more.items }
     ensures { IfOk result (λ _. All (FitsColumns columns.now) lines.new) }
@@ -109,9 +113,21 @@ pub fn run<R: Threads + Wait + Sync>(
     ensures { IfOk result (λ o. o.plain.columns ≡ trace.schema) }
 {
     let schema = trace.schema.copy()?;
-    let (table, mut hands, mut first) =
-        create(alloc, schema, trace.size, trace.percent, MOST_CALLS)?;
-    let players = players(alloc, &table, &trace.schema, &mut hands, &mut first, threads)?;
+    let (table, mut hands, mut first) = create(
+        alloc,
+        schema,
+        trace.size,
+        trace.percent,
+        MOST_CALLS,
+    )?;
+    let players = new_players(
+        alloc,
+        &table,
+        &trace.schema,
+        &mut hands,
+        &mut first,
+        threads,
+    )?;
     let played = played(rt, &table, players, calls, rounds)?;
     let mut seats = Vec::new(alloc);
     seats.push(first)?;

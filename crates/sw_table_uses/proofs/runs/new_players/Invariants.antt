@@ -2,7 +2,7 @@ use Rattle.std.proofs.Common.{◌≡◌, ◌+◌}
 use Rattle.std.specs.Prelude.{All}
 use Rattle.sw_table_join.specs.Tables.{IsHandsOf, IsReady}
 use Rattle.sw_table_uses.specs.Players.{IsPlayer}
-use Rattle.sw_table_uses.proofs.runs.players.Given as goal
+use Rattle.sw_table_uses.proofs.runs.new_players.Given as goal
 
 -- a seat was made for each player and for the first
 abbrev pub invariant-loop-caller : goal.invariant-loop-caller
