@@ -49,11 +49,13 @@ holds_part t b rows x old seat is r near left made sound e =
       bucket = subst (λ cs. IsBucket cs rows) columns sound;
     }
 
--- what was answered, said of the seat that it is
-pub part_as : (t : SharedNow) (old old' new : SeatView) (b : ℕ) (rows rows' : List DumpRow) (result : Result Placed PartFault) → old ≡ old'
-    → MatchResult result (λ placed. Parted t old new b rows rows' placed) (λ fault. (rows' ≡ rows) × PartRefused t old new b fault)
-    → MatchResult result (λ placed. Parted t old' new b rows rows' placed) (λ fault. (rows' ≡ rows) × PartRefused t old' new b fault)
-part_as t old old' new b rows rows' result e x = subst (λ (s : SeatView). MatchResult result (λ placed. Parted t s new b rows rows' placed) (λ fault. (rows' ≡ rows) × PartRefused t s new b fault)) e x
+-- what was answered, said of the seat and the list that they are
+pub part_as : (t : SharedNow) (old old' new : SeatView) (b : ℕ) (rows rows' after : List DumpRow) (result : Result Placed PartFault) → old ≡ old' → rows ≡ rows'
+    → MatchResult result (λ placed. Parted t old new b rows after placed) (λ fault. (after ≡ rows) × PartRefused t old new b fault)
+    → MatchResult result (λ placed. Parted t old' new b rows' after placed) (λ fault. (after ≡ rows') × PartRefused t old' new b fault)
+part_as t old old' new b rows rows' after result e r x =
+    subst (λ (xs : List DumpRow). MatchResult result (λ placed. Parted t old' new b xs after placed) (λ fault. (after ≡ xs) × PartRefused t old' new b fault)) r
+    (subst (λ (s : SeatView). MatchResult result (λ placed. Parted t s new b rows after placed) (λ fault. (after ≡ rows) × PartRefused t s new b fault)) e x)
 
 module _ (t : SharedNow) (b : ℕ) (rows : List Packed) (held : SeatView) (h : HoldsPart t b rows held) where
   -- the draw of a Count leaves the bucket
