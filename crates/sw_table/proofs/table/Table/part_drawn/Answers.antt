@@ -6,7 +6,7 @@ use Rattle.sw_table.specs.Holding.{free}
 use Rattle.sw_table.specs.Parting.{PartRefused}
 use Rattle.sw_table.proofs.Drawing.{drew_as, refused_as, room_as}
 use Rattle.sw_table.proofs.Parting.{parted, refused_part}
-use Rattle.sw_table.proofs.part.Table.part_drawn.Goals as goal
+use Rattle.sw_table.proofs.table.Table.part_drawn.Goals as goal
 
 pub returns-in-Err-clause-part : goal.returns-in-Err-clause-part
 returns-in-Err-clause-part g c =

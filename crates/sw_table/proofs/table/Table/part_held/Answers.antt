@@ -5,7 +5,7 @@ use Rattle.sw_bucket.specs.Rows.{rows_by, IsBucket}
 use Rattle.sw_tmodel.specs.Dumps.{AreRowsOf}
 use Rattle.sw_table.specs.Holding.{free}
 use Rattle.sw_table.proofs.Parting.{part_as, part_back}
-use Rattle.sw_table.proofs.part.Table.part_held.Goals as goal
+use Rattle.sw_table.proofs.table.Table.part_held.Goals as goal
 
 pub copied_for-requires : goal.copied_for-requires
 copied_for-requires g c =

@@ -3,7 +3,7 @@ use Rattle.sw_table_join.specs.Tables.{SharedNow, IsShared}
 use Rattle.sw_table.specs.Holding.{free}
 use Rattle.sw_table.proofs.Drawing.{left_as, free_taken}
 use Rattle.sw_table.proofs.Parting.{holds_part, part_as}
-use Rattle.sw_table.proofs.part.Table.part.Goals as goal
+use Rattle.sw_table.proofs.table.Table.part.Goals as goal
 
 pub part_held-requires-clause-made : goal.part_held-requires-clause-made
 part_held-requires-clause-made c = refl
