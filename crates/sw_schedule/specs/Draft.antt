@@ -1,9 +1,10 @@
 -- A drill as far as it was read, and one line more.
-use Rattle.std.specs.Prelude.{ℕ, ◌+◌, List, [], ◌∷◌, ◌++◌, codes, Bool, true, false, Option, Some, None, Result, Ok, Err, if◌then◌else◌}
+use Rattle.std.specs.Prelude.{ℕ, List, [], ◌∷◌, ◌++◌, codes, Bool, true, false, Option, Some, None, Result, Ok, Err, if◌then◌else◌}
 use Rattle.std.specs.Str.{bytes_eq}
 use Rattle.sw_text.specs.Then.{◌>>=◌}
 use Rattle.sw_text.specs.Numbers.{number_within}
 use Rattle.sw_text.specs.Parts.{cut_at, part_at, lines_of}
+use Rattle.sw_lines.specs.Lines.{lines_read}
 use Rattle.sw_step.specs.declared.step.Step.{Step}
 use Rattle.sw_step.specs.declared.step.Step.TheVariants as steps
 use Rattle.sw_set_lines.specs.Values.{is_setting_name, value_of}
@@ -135,16 +136,6 @@ line_by d line (Some p) = worded d line p
 unfoldable pub line_read : Draft → List ℕ → Option Draft
 line_read d line = line_by d line (part_at 32 line)
 
-abbrev pub numbered : ℕ → Option Draft → Result Draft ℕ
-numbered n None = Err n
-numbered n (Some d) = Ok d
-
--- the draft after the lines, or the number of the first line that isn't in the grammar
-unfoldable pub lines_read : ℕ → Result Draft ℕ → List (List ℕ) → Result Draft ℕ
-lines_read n (Err e) ls = Err e
-lines_read n (Ok d) [] = Ok d
-lines_read n (Ok d) (l ∷ ls) = lines_read (n + 1) (numbered n (line_read d l)) ls
-
 abbrev pub fresh : Draft
 fresh = record { pairs = []; script = no_rules; ruled = false; peers = no_peers; lines = [] }
 
@@ -154,4 +145,4 @@ finished (Ok d) = Ok (record { pairs = d.pairs; script = d.script; lines = d.lin
 
 -- the schedule that a text is, or the number of its first line that isn't in the grammar
 abbrev pub schedule_of : List ℕ → Result Schedule ℕ
-schedule_of text = finished (lines_read 1 (Ok fresh) (lines_of text))
+schedule_of text = finished (lines_read line_read 1 (Ok fresh) (lines_of text))

@@ -279,9 +279,9 @@ impl Draft {
         self.read_schedule(alloc, word, rest)
     }
 
-    /// Reads one line more, and answers whether it is in the grammar there. After an error the draft isn't to be used.
+    /// Takes one line more, and answers whether it is in the grammar there. After an error the draft isn't to be used.
     #[tactic(auto, unfolding(crate::specs::Draft::line_read))]
-    pub fn read_line(&mut self, alloc: Global, line: &[u8]) -> Result<bool, OutOfMemory>
+    pub fn take_line(&mut self, alloc: Global, line: &[u8]) -> Result<bool, OutOfMemory>
         ensures { IfOk result (λ ok. line_read self.old line.now ≡ (if ok then Some self.new else None)) }
     {
         match part(line, 32) {

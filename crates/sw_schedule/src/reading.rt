@@ -1,30 +1,23 @@
 //! A text read whole, line by line.
 
-ghost use Rattle.std.specs.Prelude.{◌≡◌, ℕ, List, Option, Some, None, Ok, IfOk};
-ghost use Rattle.sw_text.specs.Parts.{lines_of};
-ghost use Rattle.sw_schedule.specs.Draft.{schedule_of, lines_read, fresh};
+ghost use Rattle.std.specs.Prelude.{◌≡◌, ℕ, List, IfOk};
+ghost use Rattle.sw_schedule.specs.Draft.{schedule_of};
 ghost use Rattle.sw_schedule.specs.Grammar.{IsRead};
 
 use crate::draft::Draft;
 use crate::schedule::Schedule;
 use std::alloc::Global;
 use sw_base::OutOfMemory;
-use sw_text::next_line;
+use sw_lines::{LineReader, read_lines};
 
-fn lines(alloc: Global, text: &[u8]) -> Result<Result<Draft, u64>, OutOfMemory>
-    ensures { IfOk result (λ r. r ≡ lines_read 1 (Ok fresh) (lines_of text.now)) }
-{
-    let mut draft = Draft::new(alloc);
-    let mut rest = text;
-    let mut n = 1u64;
-    while let Some((line, after)) = next_line(rest) {
-        if !draft.read_line(alloc, line)? {
-            return Ok(Err(n));
-        }
-        rest = after;
-        n += 1;
+impl LineReader for Draft {
+    ghost use Rattle.sw_schedule.specs.Draft.{line_read};
+
+    ghost with_line = { line_read };
+
+    fn read_line(&mut self, alloc: Global, line: &[u8]) -> Result<bool, OutOfMemory> {
+        self.take_line(alloc, line)
     }
-    Ok(Ok(draft))
 }
 
 /// What a text says, or the number, from 1, of its first line that isn't in the grammar. It answers an error of its own where
@@ -32,7 +25,7 @@ fn lines(alloc: Global, text: &[u8]) -> Result<Result<Draft, u64>, OutOfMemory>
 pub fn read(alloc: Global, text: &[u8]) -> Result<Result<Schedule, u64>, OutOfMemory>
     ensures { IfOk result (λ r. r ≡ schedule_of text.now) }
 {
-    match lines(alloc, text)? {
+    match read_lines(alloc, Draft::new(alloc), 1, text)? {
         Err(n) => Ok(Err(n)),
         Ok(draft) => Ok(Ok(Schedule {
             pairs: draft.pairs,
