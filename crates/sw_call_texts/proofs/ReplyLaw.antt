@@ -26,16 +26,20 @@ use Rattle.sw_call_texts.proofs.VerbLaw.{equal}
 
 -- ---- values of a row
 
+-- a row that is shown
+abbrev row : List Value → Replied
+row cells = record { reply = replies.Found; cells = cells }
+
 cells_go : IsReadBack IsValue cell_text value_text value_of 32
 cells_go v is = (refl, without_low 32 (value_text v) (omega arith) (value_word v is), value_back v is)
 
 cell_read : IsReadSo IsValue cell_text value_of 32
 cell_read text v e = let s = value_is text v e in (s.0, ap (λ (t : List ℕ). 32 ∷ t) s.1)
 
-row_back : (v : Value) (vs : List Value) → IsValue v → AllByRecursion IsValue vs → row_reply (value_text v ++ flat_map cell_text vs) ≡ Some (record { reply = replies.Found; cells = v ∷ vs })
+row_back : (v : Value) (vs : List Value) → IsValue v → AllByRecursion IsValue vs → row_reply (value_text v ++ flat_map cell_text vs) ≡ Some (row (v ∷ vs))
 unfolding row_reply
 row_back v vs is all =
-    ap (λ (x : Option (List Value)). x >>= (λ (cells : List Value). Some (record { reply = replies.Found; cells = cells } : Replied))) (items_back IsValue cell_text value_text value_of 32 cells_go v vs is all)
+    ap (λ (x : Option (List Value)). x >>= (λ (cells : List Value). Some (row cells))) (items_back IsValue cell_text value_text value_of 32 cells_go v vs is all)
 
 -- ---- what is printed is read
 
@@ -68,7 +72,7 @@ words_back = (refl, refl, refl, refl, refl, refl, refl)
 
 found_back : (cells : List Value) → AllByRecursion IsValue cells → Shows replies.Found cells
 found_back [] all = words_back.2
-found_back (v ∷ vs) all = long_back (codes "row") (value_text v ++ flat_map cell_text vs) (Some (record { reply = replies.Found; cells = v ∷ vs })) (without_test 32 (codes "row") refl) (row_back v vs all.0 all.1)
+found_back (v ∷ vs) all = long_back (codes "row") (value_text v ++ flat_map cell_text vs) (Some (row (v ∷ vs))) (without_test 32 (codes "row") refl) (row_back v vs all.0 all.1)
 
 reply_back : (r : Reply) (cells : List Value) → IsReply r cells → Shows r cells
 reply_back replies.Stored cells is = shown replies.Stored cells is words_back.0
@@ -109,9 +113,8 @@ word_read word r e =
 row_read : (text : List ℕ) (r : Replied) → row_reply text ≡ Some r → IsSpelled (codes "row" ++ 32 ∷ text) r
 unfolding row_reply
 row_read text r e =
-    let vs = first_of (values_of text) (λ (cells : List Value). Some (record { reply = replies.Found; cells = cells } : Replied)) r e in
-    let own : Replied = record { reply = replies.Found; cells = vs.0 } in
-    let same : own ≡ r = let f = vs.2 in cc in
+    let vs = first_of (values_of text) (λ (cells : List Value). Some (row cells)) r e in
+    let same : row vs.0 ≡ r = let f = vs.2 in cc in
     let s = items_spelled IsValue cell_text value_of 32 cell_read text vs.0 vs.1 in
     subst (λ (x : Replied). IsSpelled (codes "row" ++ 32 ∷ text) x) same (s.0, ap (λ (t : List ℕ). codes "row" ++ t) s.1)
 

@@ -37,12 +37,7 @@ fn put_pair(out: &mut String, pair: &Pair) -> Result<(), OutOfMemory> {
 }
 
 /// How many rules there are of a kind, where there are any.
-fn put_count(
-    out: &mut String,
-    script: &Script,
-    on: On,
-    word: &str,
-) -> Result<(), OutOfMemory> {
+fn put_count(out: &mut String, script: &Script, on: On, word: &str) -> Result<(), OutOfMemory> {
     let count = script.rules(on).as_slice().len();
     if count > 0 {
         writeln!(out, "{count} on {word}")?;
