@@ -32,7 +32,7 @@ pub fn read_lines<R: LineReader + Drop>(
     Ok(Ok(reader))
 }
 
-/// What lines come to, for each way of reading a line and all lines, in terms of the lines alone.
-pub fn reading_is_exact()
-    ensures { {S : Type 0} (with_line : S → List ℕ → Option S) (first : ℕ) (start : S) (lines : List (List ℕ)) → IsRead with_line first start lines (lines_read with_line first (Ok start) lines) }
+/// What lines come to, for each reader and all lines, in terms of the lines alone.
+pub fn reading_is_exact<R: LineReader>()
+    ensures { (first : ℕ) (start : R) (lines : List (List ℕ)) → IsRead R.with_line first start lines (lines_read R.with_line first (Ok start) lines) }
 {}
