@@ -210,7 +210,7 @@ impl Draft {
     fn add_rule(&mut self, alloc: Global, line: &[u8]) -> Result<bool, OutOfMemory>
         ensures { IfOk result (λ ok. rule_read self.old line.now ≡ (if ok then Some self.new else None)) }
     {
-        if self.script.read_line(alloc, line)? {
+        if self.script.take_line(alloc, line)? {
             self.ruled = true;
             Ok(true)
         } else {
