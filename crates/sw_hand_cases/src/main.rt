@@ -6,6 +6,7 @@
 mod hand;
 mod kinds;
 mod playing;
+mod printing;
 mod settings;
 mod shelf;
 mod starving;

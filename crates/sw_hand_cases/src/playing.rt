@@ -3,22 +3,21 @@ ghost use Rattle.std.specs.Prelude.{◌≡◌, ◌<◌, ◌≤◌, ◌+◌, leng
 ghost use Rattle.sw_hand.specs.Hand.{IsCrew};
 ghost use Rattle.sw_hand_cases.specs.Play.{IsSmall};
 
-use crate::shelf::CaseShelf;
+use crate::printing::{put_log, put_more, put_session};
+use crate::shelf::{CaseShelf, shelf_of};
 use crate::starving::Starving;
 use std::alloc::Global;
 use std::marker::Model;
-use sw_base::{CallFault, Counter, OutOfMemory, Session};
+use sw_base::{CallFault, Counter, OutOfMemory};
 use sw_case_ports::{CaseBook, CaseTicket};
 use sw_column::{RowBuf, Schema};
-use sw_data::{Ask, Got, Log, Msg};
+use sw_data::{Ask, Got, Msg};
 use sw_hand::House;
 use sw_handler::Logged;
 use sw_link::MemoryLink;
-use sw_log_text::put_entry;
 use sw_port_board::{Board, Crew, PlainBoard};
 use sw_scripted::Scripted;
 use sw_tasker::Tasker;
-use sw_tmodel::Plain;
 use sw_worker::Worker;
 
 /// What handles in a case: a script that may want memory, with its log.
@@ -79,18 +78,6 @@ fn board_of(alloc: Global, house: &House, own: u32) -> Result<PlainBoard, OutOfM
         board.turn_of(own);
     }
     Ok(board)
-}
-
-/// A Table that refuses nothing yet.
-fn shelf_of(alloc: Global, schema: Schema) -> Result<CaseShelf, OutOfMemory>
-    ensures { IfOk result (λ shelf. shelf.plain.columns ≡ schema) }
-{
-    let plain = Plain::make(alloc, schema, 64, 20, 8_796_093_022_207)?;
-    Ok(CaseShelf {
-        plain,
-        fault: None,
-        calls: 0,
-    })
 }
 
 impl Play {
@@ -260,41 +247,6 @@ impl Play {
             }
         }
     }
-}
-
-fn put_session(out: &mut String, what: &str, of: Option<Session>) -> Result<(), OutOfMemory> {
-    match of {
-        Some(session) => Ok(write!(out, " {what} {}", session.number())?),
-        None => Ok(()),
-    }
-}
-
-/// Prints a name where a count rose.
-fn put_more(out: &mut String, what: &str, old: u64, new: u64) -> Result<(), OutOfMemory> {
-    if new != old {
-        write!(out, " {what}+1")?;
-    }
-    Ok(())
-}
-
-/// Prints the entries of a log behind so many that are passed over, and answers how many are still to be passed over.
-fn put_log(
-    out: &mut String,
-    kind: &str,
-    number: u32,
-    log: &Log,
-    skip: u64,
-) -> Result<u64, OutOfMemory> {
-    let mut left = skip;
-    for entry in log.as_slice() {
-        if left > 0 {
-            left -= 1;
-        } else {
-            out.push_str("  ")?;
-            put_entry(out, kind, number as u64, entry)?;
-        }
-    }
-    Ok(left)
 }
 
 impl Play {

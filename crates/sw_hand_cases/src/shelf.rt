@@ -1,9 +1,10 @@
 //! A Table that refuses where a case says so.
-ghost use Rattle.std.specs.Prelude.{◌≡◌};
+ghost use Rattle.std.specs.Prelude.{◌≡◌, IfOk};
 ghost use Rattle.sw_port_shelf.specs.Shelf.{is_of_place};
 
-use sw_base::{Call, CallFault};
-use sw_column::RowBuf;
+use std::alloc::Global;
+use sw_base::{Call, CallFault, OutOfMemory};
+use sw_column::{RowBuf, Schema};
 use sw_port_shelf::{Placed, Shelf};
 use sw_tmodel::Plain;
 
@@ -47,4 +48,16 @@ impl Shelf for CaseShelf {
         }
         self.plain.try_call(call, row)
     }
+}
+
+/// A Table that refuses nothing yet.
+pub fn shelf_of(alloc: Global, schema: Schema) -> Result<CaseShelf, OutOfMemory>
+    ensures { IfOk result (λ shelf. shelf.plain.columns ≡ schema) }
+{
+    let plain = Plain::make(alloc, schema, 64, 20, 8_796_093_022_207)?;
+    Ok(CaseShelf {
+        plain,
+        fault: None,
+        calls: 0,
+    })
 }
