@@ -2,6 +2,7 @@
 //! one and the one that threads share. The head of the stored standard input says how a case is written.
 #![tactic(auto)]
 
+mod holder;
 mod kinds;
 mod table;
 mod table_forms;
