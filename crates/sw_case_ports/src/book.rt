@@ -51,7 +51,8 @@ impl CaseBook {
 
     /// The next calls find this word.
     pub fn set_word(&mut self, number: u32, uid: u32)
-        ensures { self.new ≡ record self.old { number = number; uid = uid } }
+        ensures word { self.new ≡ record self.old { number = number; uid = uid } }
+        ensures size { self.new.size ≡ self.old.size }
     {
         self.number = number;
         self.uid = uid;
@@ -59,7 +60,8 @@ impl CaseBook {
 
     /// No calls are shown.
     pub fn clear(&mut self)
-        ensures { self.new ≡ record self.old { looked = None; bound = None; released = None; calls = 0 } }
+        ensures cleared { self.new ≡ record self.old { looked = None; bound = None; released = None; calls = 0 } }
+        ensures size { self.new.size ≡ self.old.size }
     {
         self.looked = None;
         self.bound = None;

@@ -1,11 +1,16 @@
 -- Tickets that are apart stay so with one more whose slot no connection has.
 use Rattle.std.proofs.Common.{◌≡◌, ◌≢◌, ℕ, zero, suc, ◌+◌, ◌<◌, ◌%◌, List, [], ◌∷◌, ◌++◌, length, map, append-nil, slice_get, Option, Some, None, refl, sym, ap, ◌∙◌, subst, arith, ◌⊎◌, inl, inr}
 use Rattle.sw_conn.specs.declared.conn.Conn.{Conn}
+use Rattle.sw_conn.specs.declared.terms.Terms.{Terms}
+use Rattle.sw_data.specs.declared.messages.Got.{Got}
+use Rattle.sw_data.specs.declared.messages.Msg.{Msg}
+use Rattle.sw_frame.specs.declared.framing.Framing.{Framing}
 use Rattle.sw_reactor.proofs.Keeping.{some_is}
 use Rattle.std.proofs.lemmas.Option.{slice_get_within}
 use Rattle.sw_reactor.proofs.Slots.{not_none, same_or_not}
 use Rattle.sw_reactor.specs.Line.{Lined}
-use Rattle.sw_reactor.specs.Ready.{IsReady, AreApart, tickets, tickets_of}
+use Rattle.sw_reactor.specs.Reactor.{IsStarted}
+use Rattle.sw_reactor.specs.Ready.{IsReady, AreApart, tickets, tickets_of, brought, with_brought}
 use Rattle.sw_reactor.specs.declared.reactor.Reactor.{Reactor}
 use Rattle.sw_case_ports.specs.Book.{Holds, Differ}
 use Rattle.sw_case_scene.specs.Scene.{IsFreeSlot, MayTurn, number_of}
@@ -60,6 +65,33 @@ apart_none b ts us a e =
 -- a reactor may take its turn
 pub may_turn : {L : Type 0} (r : Reactor L CaseTicket) (b : CaseBook) → IsReady number_of r → AreApart Holds Differ b (tickets r) → MayTurn r b
 may_turn r b ready apart = record { ready = ready; apart = apart }
+
+-- what a turn needs of the reactor
+pub may_ready : {L : Type 0} (r : Reactor L CaseTicket) (b : CaseBook) → MayTurn r b → IsReady number_of r
+may_ready r b may = may.ready
+
+-- and of the tickets, where no link is new
+pub none_brought : {L : Type 0} (r : Reactor L CaseTicket) (b : CaseBook) (got : Got (Msg L CaseTicket)) → MayTurn r b → brought got ≡ [] → AreApart Holds Differ b (with_brought r got)
+none_brought r b got may none = apart_none b (tickets r) (brought got) may.apart none
+
+-- and where one is, in a slot that no connection has
+pub one_brought : {L : Type 0} (r : Reactor L CaseTicket) (b : CaseBook) (t : CaseTicket) → MayTurn r b → Holds b t → IsFreeSlot t.slot r.line → AreApart Holds Differ b (tickets r ++ t ∷ [])
+one_brought r b t may holds free = apart_more b r.line t may.apart holds free
+
+-- with another book of the same size it may still take its turn
+pub still_may : {L : Type 0} (r : Reactor L CaseTicket) (b c : CaseBook) → MayTurn r b → c.size ≡ b.size → MayTurn r c
+still_may r b c may same = record {
+  ready = may.ready;
+  apart = record { held = λ k t g. may.apart.held k t g ∙ ap (λ (n : ℕ). t.session % n) (sym same); two = may.apart.two };
+}
+
+-- a reactor without connections may take its turn over any book
+pub first_may : {L : Type 0} (r : Reactor L CaseTicket) (b : CaseBook) (terms : Terms) (framing : Framing) (read_size : ℕ) → IsStarted terms framing read_size r → IsReady number_of r → MayTurn r b
+first_may {L} r b terms framing read_size started ready =
+    record { ready = ready; apart = subst (λ (l : Lined L CaseTicket). AreApart Holds Differ b (tickets_of l.conns)) (sym started.line) none }
+  where
+    none : AreApart Holds Differ b []
+    none = record { held = λ k t g. not_none t g; two = λ j k t u g h unlike. not_none t g }
 
 -- no ticket of the connections before a place has the slot
 abbrev pub IsFreeTo : {L : Type 0} → ℕ → Lined L CaseTicket → ℕ → Type 0

@@ -76,11 +76,13 @@ impl<L> Scene<L> {
     }
 
     /// The next calls of the book find this word.
+    #[tactic(auto, using(crate::proofs::Apart::still_may))]
     pub fn set_word(&mut self, number: u32, uid: u32) {
         self.book.set_word(number, uid);
     }
 
     /// No calls of the book are shown.
+    #[tactic(auto, using(crate::proofs::Apart::still_may))]
     pub fn clear(&mut self) {
         self.book.clear();
     }
@@ -134,6 +136,7 @@ impl<L> Scene<L> {
 
 impl<L: Drop> Scene<L> {
     /// A reactor before its first turn, with a book of free slots and a board on which all workers are busy.
+    #[tactic(auto, using(crate::proofs::Apart::first_may))]
     pub fn make(
         alloc: Global,
         terms: Terms,
@@ -159,7 +162,7 @@ impl<L: Drop> Scene<L> {
 impl<L: Link + Drop> Scene<L> {
     /// A turn, with what the last pipe call gave, other than a new link: that is what `arrive` is for. It asks for a rest where
     /// it is one, and where book and board don't fit the reactor.
-    #[tactic(auto, using(crate::proofs::Apart::apart_none, crate::proofs::Apart::may_turn))]
+    #[tactic(auto, using(crate::proofs::Apart::none_brought, crate::proofs::Apart::may_ready, crate::proofs::Apart::may_turn))]
     pub fn turn(&mut self, alloc: Global, got: Got<Msg<L, CaseTicket>>) -> Ask<Msg<L, CaseTicket>> {
         if !self.fits() || brings(&got) {
             return Ask::Rest;
@@ -169,7 +172,7 @@ impl<L: Link + Drop> Scene<L> {
 
     /// The settling of what the last pipe call gave, alone. Nothing is settled where it is a new link, or where book and board
     /// don't fit the reactor.
-    #[tactic(auto, using(crate::proofs::Apart::apart_none, crate::proofs::Apart::may_turn))]
+    #[tactic(auto, using(crate::proofs::Apart::none_brought, crate::proofs::Apart::may_ready, crate::proofs::Apart::may_turn))]
     pub fn settle(&mut self, alloc: Global, got: Got<Msg<L, CaseTicket>>) {
         if self.fits() && !brings(&got) {
             self.reactor.settle(alloc, got, &mut self.book);
@@ -177,7 +180,7 @@ impl<L: Link + Drop> Scene<L> {
     }
 
     /// A turn in which a new link of this session was taken; None where a connection has the session's slot.
-    #[tactic(auto, using(crate::proofs::Apart::apart_more, crate::proofs::Apart::may_turn))]
+    #[tactic(auto, using(crate::proofs::Apart::one_brought, crate::proofs::Apart::may_ready, crate::proofs::Apart::may_turn))]
     pub fn arrive(
         &mut self,
         alloc: Global,
