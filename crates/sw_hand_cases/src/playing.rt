@@ -82,6 +82,7 @@ fn board_of(alloc: Global, house: &House, own: u32) -> Result<PlainBoard, OutOfM
 
 impl Play {
     /// A worker before its first turn.
+    #[tactic(auto, using(crate::proofs::Turning::row_there))]
     pub fn worker(
         alloc: Global,
         id: u64,
@@ -110,6 +111,7 @@ impl Play {
     }
 
     /// A task worker before its first turn.
+    #[tactic(auto, using(crate::proofs::Turning::row_there))]
     pub fn tasker(
         alloc: Global,
         number: u32,
@@ -136,6 +138,7 @@ impl Play {
     }
 
     /// A turn, with what the last pipe call gave.
+    #[tactic(auto, using(crate::proofs::Turning::crew_still))]
     pub fn turn(&mut self, alloc: Global, got: Got<CaseMessage>) -> Ask<CaseMessage> {
         match &mut self.actor {
             Actor::Worker(worker) => worker.turn(
