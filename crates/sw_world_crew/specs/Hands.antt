@@ -17,13 +17,9 @@ abbrev pub AtHand : {H : Type 0} → List (Hand H) → ℕ → (Hand H → Hand 
 AtHand {H} all n P more = (h : Hand H) × ((k : Hand H) × ((slice_get all n ≡ Some h) × P h k × (more ≡ slice_set all n k)))
 
 -- its turn may be made: the board has its crews, and its row the Table's columns
-pub record MayTurn {H : Type 0} (h : Hand H) (q : PlainTable) (w : PlainWords) : Type 0 where
-  pub crew : IsCrew h.house w.sizes
-  pub row : HasRow q.columns h.house h.row
+abbrev pub MayTurn : {H : Type 0} → Hand H → PlainTable → PlainWords → Type 0
+MayTurn h q w = IsCrew h.house w.sizes × HasRow q.columns h.house h.row
 
 -- behind a turn it is a hand of the same house and kind, whose row has the Table's columns
-pub record GoesOn {H : Type 0} (h k : Hand H) (q : PlainTable) : Type 0 where
-  pub hand : IsHand k
-  pub house : k.house ≡ h.house
-  pub kind : k.kind ≡ h.kind
-  pub row : HasRow q.columns k.house k.row
+abbrev pub GoesOn : {H : Type 0} → Hand H → Hand H → PlainTable → Type 0
+GoesOn h k q = IsHand k × (k.house ≡ h.house) × (k.kind ≡ h.kind) × HasRow q.columns k.house k.row

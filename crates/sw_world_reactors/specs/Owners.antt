@@ -38,10 +38,8 @@ abbrev pub IsReadyOwner : Owner → Type 0
 IsReadyOwner o = IsReady number o.reactor
 
 -- before its first turn, with nothing among its ends
-pub record IsNew (terms : Terms) (framing : Framing) (read_size : ℕ) (o : Owner) : Type 0 where
-  pub started : IsStarted terms framing read_size o.reactor
-  pub ready : IsReadyOwner o
-  pub ends : o.ends.kept ≡ []
+abbrev pub IsNew : Terms → Framing → ℕ → Owner → Type 0
+IsNew terms framing read_size o = IsStarted terms framing read_size o.reactor × IsReadyOwner o × (o.ends.kept ≡ [])
 
 -- so many of them
 abbrev pub AreNew : Terms → Framing → ℕ → ℕ → List Owner → Type 0
@@ -53,11 +51,12 @@ AtOwner all n P more = (o : Owner) × ((q : Owner) × ((slice_get all n ≡ Some
 
 -- its turn may be made with this: book and board have its sizes, and the sessions of its connections, with the one that comes, stand in
 -- their words and differ
-pub record MayTurn (o : Owner) (got : Getting) (b : Words) (w : PlainWords) : Type 0 where
-  pub ready : IsReadyOwner o
-  pub size : length b.slots ≡ o.reactor.terms.max_conn
-  pub members : members Workers w.sizes ≡ o.reactor.terms.worker_num
-  pub apart : AreApart Stands (λ one other. one ≢ other) b (with_brought o.reactor got)
+abbrev pub MayTurn : Owner → Getting → Words → PlainWords → Type 0
+MayTurn o got b w =
+    IsReadyOwner o
+    × (length b.slots ≡ o.reactor.terms.max_conn)
+    × (members Workers w.sizes ≡ o.reactor.terms.worker_num)
+    × AreApart Stands (λ one other. one ≢ other) b (with_brought o.reactor got)
 
 -- its turn
 abbrev pub TurnsOwner : Owner → Getting → Words → PlainWords → Asking → Owner → Words → PlainWords → Type 0
