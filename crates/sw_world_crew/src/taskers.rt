@@ -1,6 +1,6 @@
 //! All task workers, by their numbers.
 ghost use Rattle.std.specs.Prelude.{◌≡◌, ◌<◌, ◌^◌, [], ◌∷◌, ◌++◌, length, slice_get, IfSome, OnOk, OnErr};
-ghost use Rattle.sw_column.specs.Values.{blank};
+ghost use Rattle.sw_column.specs.Values.{HasKinds, blank};
 ghost use Rattle.sw_hand.specs.House.{IsHouse};
 ghost use Rattle.sw_world_crew.specs.Hands.{AtHand, MayTurn, GoesOn, plain_rules_of};
 
@@ -71,6 +71,7 @@ impl<T: Drop> Taskers<T> {
         requires house { IsHouse house }
         requires few { length self.old < 2 ^ 32 }
         ensures ok { OnOk result (self.new ≡ self.old ++ started (length self.old) handler (blank schema.now) house ∷ []) }
+        ensures kinds { OnOk result (HasKinds schema.now (blank schema.now)) }
         ensures err { OnErr result (self.new ≡ self.old) }
     {
         let number = self.all.len() as u32;

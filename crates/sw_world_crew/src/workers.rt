@@ -1,6 +1,6 @@
 //! All workers, by their numbers.
 ghost use Rattle.std.specs.Prelude.{◌≡◌, ◌<◌, ◌^◌, [], ◌∷◌, ◌++◌, length, slice_get, IfSome, OnOk, OnErr};
-ghost use Rattle.sw_column.specs.Values.{blank};
+ghost use Rattle.sw_column.specs.Values.{HasKinds, blank};
 ghost use Rattle.sw_hand.specs.House.{IsHouse};
 ghost use Rattle.sw_world_crew.specs.Hands.{AtHand, MayTurn, GoesOn, plain_rules_of};
 
@@ -74,6 +74,7 @@ impl<H: Drop> Workers<H> {
         requires house { IsHouse house }
         requires few { length self.old < 2 ^ 32 }
         ensures ok { OnOk result (self.new ≡ self.old ++ started 0 (length self.old) handlers.items max_request (blank schema.now) house ∷ []) }
+        ensures kinds { OnOk result (HasKinds schema.now (blank schema.now)) }
         ensures err { OnErr result (self.new ≡ self.old) }
     {
         let number = self.all.len() as u32;
