@@ -2,7 +2,6 @@
 use Rattle.std.proofs.Common.{◌≡◌, ◌⊎◌, ℕ, ◌+◌, ◌<◌, ◌≤◌, List, [], ◌∷◌, ◌++◌, length, slice_get, slice_set, Option, Some, None, refl, ap, ◌∙◌, sym, subst, arith, inl, inr, zero, suc}
 use Rattle.std.proofs.lemmas.Bool.{cases_lt}
 use Rattle.sw_lists.proofs.Lists.{equal_or_not, length_append}
-use Rattle.sw_reactor.proofs.Slots.{get_set_same, get_set_other}
 
 -- an item at a place of which something holds
 abbrev pub At : {A : Type 0} → (ℕ → A → Type 0) → List A → ℕ → Type 0
@@ -24,6 +23,18 @@ set_length (y ∷ xs) (suc n) x = ap (λ (k : ℕ). suc k) (set_length xs n x)
 
 pub more_length : {A : Type 0} (xs : List A) (x : A) (count : ℕ) → length xs ≡ count → length (xs ++ x ∷ []) ≡ count + 1
 more_length xs x count e = length_append xs (x ∷ []) ∙ ap (λ (k : ℕ). k + 1) e
+
+get_set_same : {A : Type 0} (xs : List A) (k : ℕ) (y : A) → k < length xs → slice_get (slice_set xs k y) k ≡ Some y
+get_set_same [] k y lt = absurd (omega (arith, lt))
+get_set_same (x ∷ xs) zero y lt = refl
+get_set_same (x ∷ xs) (suc k) y lt = get_set_same xs k y (omega (arith, lt))
+
+get_set_other : {A : Type 0} (xs : List A) (j k : ℕ) (y : A) → ¬ (j ≡ k) → slice_get (slice_set xs k y) j ≡ slice_get xs j
+get_set_other [] j k y n = refl
+get_set_other (x ∷ xs) zero zero y n = absurd (n refl)
+get_set_other (x ∷ xs) zero (suc k) y n = refl
+get_set_other (x ∷ xs) (suc j) zero y n = refl
+get_set_other (x ∷ xs) (suc j) (suc k) y n = get_set_other xs j k y (λ e. n (ap (λ (m : ℕ). suc m) e))
 
 -- one item more
 pub one_more : {A : Type 0} (P : ℕ → A → Type 0) (xs : List A) (x : A) (count : ℕ) → length xs ≡ count → ((n : ℕ) → n < count → At P xs n) → P count x → (n : ℕ) → n < count + 1 → At P (xs ++ x ∷ []) n

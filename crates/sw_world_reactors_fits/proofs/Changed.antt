@@ -50,7 +50,9 @@ room_keeps e room l ended false g h = absurd (let le : e.room ≤ length e.kept 
 
 -- one is changed
 set_length : (xs : List Owner) (n : ℕ) (x : Owner) → length (slice_set xs n x) ≡ length xs
-set_length xs n x = grind arith
+set_length [] n x = refl
+set_length (y ∷ xs) zero x = refl
+set_length (y ∷ xs) (suc n) x = ap (λ (k : ℕ). suc k) (set_length xs n x)
 
 pub changed : (t : Terms) (all more : List Owner) (tables after : ℕ → Table) (n : ℕ) (q : Owner) → ReactorsStand t all tables → more ≡ slice_set all n q → ((m : ℕ) → ¬ (m ≡ n) → after m ≡ tables m) → OwnerStands t q (after n) → ReactorsStand t more after
 changed t all more tables after n q h e same here = subst (λ (xs : List Owner). ReactorsStand t xs after) (sym e) (record {
