@@ -195,6 +195,19 @@ doors_push t legal p c h l ok y x m th s some n lt z ne gave = pick (is (Reactor
     pushes : (xs : List Message) → ¬ (no_more m ≡ []) → ¬ (collect no_more (bare (h.pushed y ++ (x, m) ∷ [])) ≡ [])
     pushes xs k e = some_right (collect no_more (bare (h.pushed y))) (no_more m ++ []) (some_left (no_more m) [] k) (sym (ap (collect no_more) (collect-append msg_of (h.pushed y) ((x, m) ∷ [])) ∙ collect-append no_more (bare (h.pushed y)) (m ∷ [])) ∙ e)
 
+    no_reactor : ToWorker t (x, m) → x ≡ Reactor n → ¬ (no_more m ≡ []) → ⊥
+    no_reactor w e k = by_message m w e k
+      where
+        by_message : (v : Message) → ToWorker t (x, v) → x ≡ Reactor n → ¬ (no_more v ≡ []) → ⊥
+        by_message NoMore w e k = absurd (let g : Worker w.0 ≡ Reactor n = sym w.1.1 ∙ e in cc)
+        by_message (EventMsg v) w e k = absurd (let g : Worker w.0 ≡ Reactor n = sym w.1.1 ∙ e in cc)
+        by_message (FreshMsg ip v) w e k = w
+        by_message (SendMsg v b) w e k = w
+        by_message (CloseMsg v) w e k = w
+        by_message (ResetMsg v) w e k = w
+        by_message (Bye v) w e k = w
+        by_message (OverMsg id) w e k = w
+
     by : x ≡ Reactor n → ¬ (no_more m ≡ []) → y ≡ z → Kind t y → ¬ (collect no_more (of Door (h.took (Reactor n))) ≡ [])
     by e k i (AsDoor q) = absurd (ne (sym i ∙ q))
     by e k i (AsReactor r less q) = absurd (no_reactor (last (ToWorker t) (s.reactor r less q (subst (λ (v : ActorId). HasWord (h.dids v)) (sym q) (words_found t legal p c h l r less))).0.to_workers) e k)
@@ -211,19 +224,6 @@ doors_push t legal p c h l ok y x m th s some n lt z ne gave = pick (is (Reactor
         one : (b : Bool) → is y z ≡ b → ¬ (collect no_more (when b m ++ []) ≡ []) → ¬ (collect no_more (of Door (h.took (Reactor n))) ≡ [])
         one true i g = by (sym (is_same (Reactor n) x q)) (λ e. g (ap (λ (zs : List ℕ). zs ++ []) e)) (is_same y z i) (kind t y)
         one false i g = absurd (g refl)
-
-    no_reactor : ToWorker t (x, m) → x ≡ Reactor n → ¬ (no_more m ≡ []) → ⊥
-    no_reactor w e k = by_message m w e k
-      where
-        by_message : (v : Message) → ToWorker t (x, v) → x ≡ Reactor n → ¬ (no_more v ≡ []) → ⊥
-        by_message NoMore w e k = absurd (let g : Worker w.0 ≡ Reactor n = sym w.1.1 ∙ e in cc)
-        by_message (EventMsg v) w e k = absurd (let g : Worker w.0 ≡ Reactor n = sym w.1.1 ∙ e in cc)
-        by_message (FreshMsg ip v) w e k = w
-        by_message (SendMsg v b) w e k = w
-        by_message (CloseMsg v) w e k = w
-        by_message (ResetMsg v) w e k = w
-        by_message (Bye v) w e k = w
-        by_message (OverMsg id) w e k = w
 
 -- A TAKE
 pub doors_take : (t : Terms) (took sent : ActorId → Mail) → DoorsFirst t took sent → (y : ActorId) (e : ActorId × Message) → DoorsFirst t (put took y e) sent
