@@ -76,7 +76,8 @@ impl<T: Drop> Taskers<T> {
     {
         let number = self.all.len() as u32;
         let row = RowBuf::make(alloc, schema)?;
-        self.all.push(Tasker::new(alloc, number, handler, row, house))?;
+        self.all
+            .push(Tasker::new(alloc, number, handler, row, house))?;
         Ok(())
     }
 }

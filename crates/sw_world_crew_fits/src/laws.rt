@@ -46,7 +46,7 @@ pub fn added_workers_stand<H>()
         IsHouse house → HouseFits t house → length handlers ≡ crews.left (Worker count) + 1 →
         map told handlers ≡ replicate (length handlers) [] → HasKinds t.columns row →
         WorkersStand told t crews (count + 1) (all ++ worker_started 0 count handlers crews.limit row house ∷ [])
-            (λ n. new_hand (crews.left (Worker n))) }
+        (λ n. new_hand (crews.left (Worker n))) }
 {}
 
 /// Board and Table let a worker's turn be made.

@@ -82,16 +82,16 @@ share_first x (e ∷ ms) h = pick (is e.0 x)
 first_mid : (xs ys : List Message) (m : Message) → ComeFirst (xs ++ m ∷ ys) → ¬ (collect no_more xs ≡ []) → fresh_in m ≡ []
 first_mid [] ys m h n = absurd (n refl)
 first_mid (x ∷ xs) ys m h n = elim (empty_or (no_more x)) [
-    | inl q ↦ first_mid xs ys m h.1 (λ z. n (ap (λ (zs : List ℕ). zs ++ collect no_more xs) q ∙ z))
-    | inr q ↦ (append_none (fresh_in m) (collect fresh_in ys) (append_none (collect fresh_in xs) (fresh_in m ++ collect fresh_in ys) (sym (collect-append fresh_in xs (m ∷ ys)) ∙ h.0 q)).1).0
-  ]
+  | inl q ↦ first_mid xs ys m h.1 (λ z. n (ap (λ (zs : List ℕ). zs ++ collect no_more xs) q ∙ z))
+  | inr q ↦ (append_none (fresh_in m) (collect fresh_in ys) (append_none (collect fresh_in xs) (fresh_in m ++ collect fresh_in ys) (sym (collect-append fresh_in xs (m ∷ ys)) ∙ h.0 q)).1).0
+]
 
 first_append : (ms : List Message) (m : Message) → ComeFirst ms → (¬ (collect no_more ms ≡ []) → fresh_in m ≡ []) → ComeFirst (ms ++ m ∷ [])
 first_append [] m h f = ((λ some. refl), tt)
 first_append (x ∷ ms) m h f = (
-    (λ some. collect-append fresh_in ms (m ∷ []) ∙ ap (λ (zs : List ℕ). zs ++ (fresh_in m ++ [])) (h.0 some) ∙ append-nil (fresh_in m) ∙ f (some_left (no_more x) (collect no_more ms) some)),
-    first_append ms m h.1 (λ some. f (some_right (no_more x) (collect no_more ms) some)),
-  )
+  (λ some. collect-append fresh_in ms (m ∷ []) ∙ ap (λ (zs : List ℕ). zs ++ (fresh_in m ++ [])) (h.0 some) ∙ append-nil (fresh_in m) ∙ f (some_left (no_more x) (collect no_more ms) some)),
+  first_append ms m h.1 (λ some. f (some_right (no_more x) (collect no_more ms) some)),
+)
 
 -- who pushed one of these
 record Sender (ys : List ActorId) (ms : Mail) : Type 0 where
@@ -112,16 +112,16 @@ sent_first e ms n = subst (λ (b : Bool). ¬ (collect no_more (when b e.1 ++ of 
 sender_in : (ys : List ActorId) (ms : Mail) → Each (λ (e : ActorId × Message). (no_more e.1 ≡ []) ⊎ Has e.0 ys) ms → ¬ (collect no_more (bare ms) ≡ []) → Sender ys ms
 sender_in ys [] h n = absurd (n refl)
 sender_in ys (e ∷ ms) h n = elim (empty_or (no_more e.1)) [
-    | inl q ↦ (let r = sender_in ys ms h.1 (λ z. n (ap (λ (zs : List ℕ). zs ++ collect no_more (bare ms)) q ∙ z)) in record { who = r.who; among = r.among; gave = sent_by e ms r.who r.gave })
-    | inr q ↦ elim h.0 [ inl z ↦ absurd (q z) | inr has ↦ record { who = e.0; among = has; gave = sent_first e ms q } ]
-  ]
+  | inl q ↦ (let r = sender_in ys ms h.1 (λ z. n (ap (λ (zs : List ℕ). zs ++ collect no_more (bare ms)) q ∙ z)) in record { who = r.who; among = r.among; gave = sent_by e ms r.who r.gave })
+  | inr q ↦ elim h.0 [ inl z ↦ absurd (q z) | inr has ↦ record { who = e.0; among = has; gave = sent_first e ms q } ]
+]
 
 sender_of : (ms : Mail) → ¬ (collect no_more (bare ms) ≡ []) → (z : ActorId) × (¬ (collect no_more (of z ms) ≡ []))
 sender_of [] n = absurd (n refl)
 sender_of (e ∷ ms) n = elim (empty_or (no_more e.1)) [
-    | inl q ↦ (let r = sender_of ms (λ z. n (ap (λ (zs : List ℕ). zs ++ collect no_more (bare ms)) q ∙ z)) in (r.0, sent_by e ms r.0 r.1))
-    | inr q ↦ (e.0, sent_first e ms q)
-  ]
+  | inl q ↦ (let r = sender_of ms (λ z. n (ap (λ (zs : List ℕ). zs ++ collect no_more (bare ms)) q ∙ z)) in (r.0, sent_by e ms r.0 r.1))
+  | inr q ↦ (e.0, sent_first e ms q)
+]
 
 each_crew : (P : ActorId → Type 0) (f : ℕ → ActorId) (k n : ℕ) → ((m : ℕ) → m < k + n → P (f m)) → Each P (crew f k n)
 each_crew P f k zero g = tt
@@ -147,9 +147,9 @@ worker_told : (t : Terms) (legal : List Ran → Type 0) (p : Actors t) (c : Core
 worker_told t legal p c h l some n lt w all =
     let ys : List ActorId = crew Reactor 0 t.reactor_num in
     let senders : Each (λ (e : ActorId × Message). (no_more e.1 ≡ []) ⊎ Has e.0 (crew Reactor 0 t.reactor_num)) (h.took (Worker w)) =
-        took_enders t (AimOf t) (EndOf t) (past_of t p c h) (locals t legal p c h l) (joint t legal p c h l) (Worker w) (crew Reactor 0 t.reactor_num) (λ y e. rw e.1.1 (subst (λ (q : ℕ). Has (Reactor q) (crew Reactor 0 t.reactor_num)) (let z : 0 + e.0 ≡ e.0 = omega arith in z) (crew_has Reactor 0 t.reactor_num e.0 e.1.0))) in
+    took_enders t (AimOf t) (EndOf t) (past_of t p c h) (locals t legal p c h l) (joint t legal p c h l) (Worker w) (crew Reactor 0 t.reactor_num) (λ y e. rw e.1.1 (subst (λ (q : ℕ). Has (Reactor q) (crew Reactor 0 t.reactor_num)) (let z : 0 + e.0 ≡ e.0 = omega arith in z) (crew_has Reactor 0 t.reactor_num e.0 e.1.0))) in
     let few : Each (λ y. count no_more (h.took (Worker w)) y ≤ 1) (crew Reactor 0 t.reactor_num) =
-        each_crew (λ y. count no_more (h.took (Worker w)) y ≤ 1) Reactor 0 t.reactor_num (λ m less. once m (let a : m < 0 + t.reactor_num = less in omega (arith, a))) in
+    each_crew (λ y. count no_more (h.took (Worker w)) y ≤ 1) Reactor 0 t.reactor_num (λ m less. once m (let a : m < 0 + t.reactor_num = less in omega (arith, a))) in
     let each = one_each t (Worker w) (crew Reactor 0 t.reactor_num) (h.took (Worker w)) senders few (let e : length (crew Reactor 0 t.reactor_num) ≡ t.reactor_num = crew_length Reactor 0 t.reactor_num in omega (arith, all, e)) in
     let one : 1 ≤ count no_more (h.took (Worker w)) (Reactor n) = each_has (λ y. 1 ≤ count no_more (h.took (Worker w)) y) (crew Reactor 0 t.reactor_num) (Reactor n) each (subst (λ (q : ℕ). Has (Reactor q) (crew Reactor 0 t.reactor_num)) (let z : 0 + n ≡ n = omega arith in z) (crew_has Reactor 0 t.reactor_num n lt)) in
     let gave : ¬ (collect no_more (of (Worker w) (h.pushed (Reactor n))) ≡ []) = some_prefix no_more (of (Reactor n) (h.took (Worker w))) (of (Worker w) (h.pushed (Reactor n))) (pipes h.took h.pushed h.sent l.pipes (Worker w) (Reactor n)) (long_some (collect no_more (of (Reactor n) (h.took (Worker w)))) one) in
@@ -162,10 +162,10 @@ worker_told t legal p c h l some n lt w all =
     prefix_length : (xs ys : List Message) → IsPrefix xs ys → length (collect no_more ys) ≤ 1 → length (collect no_more xs) ≤ 1
     prefix_length xs ys (rest, e) few = (let a : collect no_more xs ++ collect no_more rest ≡ collect no_more ys = sym (collect-append no_more xs rest) ∙ ap (collect no_more) e in shorter (collect no_more xs) (collect no_more rest) (collect no_more ys) a few)
       where
-        shorter : (as bs cs : List ℕ) → as ++ bs ≡ cs → length cs ≤ 1 → length as ≤ 1
-        shorter [] bs cs q k = omega arith
-        shorter (a ∷ []) bs cs q k = omega arith
-        shorter (a ∷ b ∷ as) bs cs q k = absurd (let z : length (a ∷ b ∷ (as ++ bs)) ≤ 1 = subst (λ (zs : List ℕ). length zs ≤ 1) (sym q) k in omega (arith, z))
+        shorter : (us vs ws : List ℕ) → us ++ vs ≡ ws → length ws ≤ 1 → length us ≤ 1
+        shorter [] vs ws q k = omega arith
+        shorter (a ∷ []) vs ws q k = omega arith
+        shorter (a ∷ b ∷ us) vs ws q k = absurd (let z : length (a ∷ b ∷ (us ++ vs)) ≤ 1 = subst (λ (zs : List ℕ). length zs ≤ 1) (sym q) k in omega (arith, z))
 
     once : (m : ℕ) → m < t.reactor_num → count no_more (h.took (Worker w)) (Reactor m) ≤ 1
     once m less = prefix_length (of (Reactor m) (h.took (Worker w))) (of (Worker w) (h.pushed (Reactor m))) (pipes h.took h.pushed h.sent l.pipes (Worker w) (Reactor m)) ((more_of t legal p c h l m less).last (Worker w))
@@ -176,7 +176,7 @@ hand_told t legal p c h l ok some n lt y (inl (w, (less, e))) came = worker_told
 hand_told t legal p c h l ok some n lt y (inr (k, (less, e))) came =
     let all : t.worker_num ≤ length (collect no_more (bare (h.took (Tasker k)))) = subst (λ (z : ActorId). EndsCame t z (h.took z)) e came in
     let senders : Each (λ (x : ActorId × Message). (no_more x.1 ≡ []) ⊎ Has x.0 (crew Worker 0 t.worker_num)) (h.took (Tasker k)) =
-        took_enders t (AimOf t) (EndOf t) (past_of t p c h) (locals t legal p c h l) (joint t legal p c h l) (Tasker k) (crew Worker 0 t.worker_num) (λ z q. rw q.1.1 (subst (λ (v : ℕ). Has (Worker v) (crew Worker 0 t.worker_num)) (let z2 : 0 + q.0 ≡ q.0 = omega arith in z2) (crew_has Worker 0 t.worker_num q.0 q.1.0))) in
+    took_enders t (AimOf t) (EndOf t) (past_of t p c h) (locals t legal p c h l) (joint t legal p c h l) (Tasker k) (crew Worker 0 t.worker_num) (λ z q. rw q.1.1 (subst (λ (v : ℕ). Has (Worker v) (crew Worker 0 t.worker_num)) (let z2 : 0 + q.0 ≡ q.0 = omega arith in z2) (crew_has Worker 0 t.worker_num q.0 q.1.0))) in
     let s = sender_in (crew Worker 0 t.worker_num) (h.took (Tasker k)) senders (long_some (collect no_more (bare (h.took (Tasker k)))) (omega (arith, all, some))) in
     let v = crew_is Worker 0 t.worker_num s.who s.among in
     let small : v.0 < t.worker_num = (let a : v.0 < 0 + t.worker_num = v.1.0 in omega (arith, a)) in

@@ -5,6 +5,6 @@
 mod laws;
 
 pub use laws::{
-    added_steps_stand, changed_reactors_stand, ends_with_room_keep, made_room_stands, new_reactors_stand,
-    turns_may_be_made,
+    added_steps_stand, changed_reactors_stand, ends_with_room_keep, made_room_stands,
+    new_reactors_stand, turns_may_be_made,
 };
