@@ -1,6 +1,5 @@
 -- The reactors of the core, each with its ends, and their turns over the plain ports.
-use Rattle.std.specs.Prelude.{◌≡◌, ◌≢◌, ℕ, ◌<◌, List, [], ◌∷◌, length, slice_get, slice_set, Option, Some, None, Result, Ok, Err}
-use Rattle.std.specs.List.{All}
+use Rattle.std.specs.Prelude.{◌≡◌, ◌≢◌, ℕ, ◌<◌, List, [], ◌∷◌, All, length, slice_get, slice_set, Option, Some, None, Result, Ok, Err}
 use Rattle.sw_conn.specs.declared.terms.Terms.{Terms}
 use Rattle.sw_frame.specs.declared.framing.Framing.{Framing}
 use Rattle.sw_link.specs.declared.memory_link.LinkStep.{LinkStep}
