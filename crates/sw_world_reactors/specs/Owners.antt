@@ -61,11 +61,11 @@ MayTurn o got b w =
 abbrev pub TurnsOwner : Owner → Getting → Words → PlainWords → Asking → Owner → Words → PlainWords → Type 0
 TurnsOwner o got b w ask q c v = Turns core_ports o.reactor got b w o.ends ask q.reactor c v q.ends
 
--- a step more for its link of this session, if it has one: the step is taken, or want of memory left all as it was
+-- a step more for its link of this session, if it has one: the step is taken, or want of memory left the link as it was
 abbrev pub AddsTo : {F : Type 0} → ℕ → LinkStep → Option MemoryLink → Owner → Result (Option LinkStep) F → Owner → Type 0
 AddsTo s step None o result q = (result ≡ Ok (Some step)) × (q ≡ o)
 AddsTo s step (Some l) o (Ok left) q = (left ≡ None) × (q ≡ record o { reactor = record o.reactor { line = with_link o.reactor.line s (added step l) } })
-AddsTo s step (Some l) o (Err fault) q = q ≡ o
+AddsTo s step (Some l) o (Err fault) q = q ≡ record o { reactor = record o.reactor { line = with_link o.reactor.line s l } }
 
 abbrev pub Adds : {F : Type 0} → ℕ → LinkStep → Owner → Result (Option LinkStep) F → Owner → Type 0
 Adds s step o result q = AddsTo s step (link_of s o.reactor.line.conns) o result q

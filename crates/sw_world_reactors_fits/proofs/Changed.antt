@@ -124,19 +124,22 @@ linked_ready r s m h = record {
   own = linked_keeps (λ (c : Conn MemoryLink ℕ). c.session) (λ c m. refl) s m r.line.conns ∙ h.own ∙ ap (map number) (sym (linked_keeps (λ (c : Conn MemoryLink ℕ). c.ticket) (λ c m. refl) s m r.line.conns));
 }
 
+linked_owner : (t : Terms) (s : ℕ) (l m : MemoryLink) (o : Owner) (x : Table) → OwnerStands t o x → link_of s o.reactor.line.conns ≡ Some l → TellsSame l m → OwnerStands t (record o { reactor = record o.reactor { line = with_link o.reactor.line s m } }) x
+linked_owner t s l m o x h e tells = record {
+  ready = linked_ready o.reactor s m h.ready;
+  is = script_is t o.reactor (kept_of o.ends) x h.is s m (λ k g. subst (λ (y : MemoryLink). TellsSame y m) (same l k (sym e ∙ g)) tells);
+}
+  where
+    same : (y z : MemoryLink) → Some y ≡ Some z → y ≡ z
+    same y z g = cc
+
 added_owner : {F : Type 0} (t : Terms) (s : ℕ) (step : LinkStep) (o q : Owner) (result : Result (Option LinkStep) F) (x : Table) → OwnerStands t o x → Adds s step o result q → OwnerStands t q x
 added_owner {F} t s step o q result x h adds = by (link_of s o.reactor.line.conns) refl result adds
   where
     by : (l : Option MemoryLink) → link_of s o.reactor.line.conns ≡ l → (r : Result (Option LinkStep) F) → AddsTo s step l o r q → OwnerStands t q x
     by None e r a = subst (λ (y : Owner). OwnerStands t y x) (sym a.1) h
-    by (Some l) e (Ok left) a = subst (λ (y : Owner). OwnerStands t y x) (sym a.1) (record {
-      ready = linked_ready o.reactor s (added step l) h.ready;
-      is = script_is t o.reactor (kept_of o.ends) x h.is s (added step l) (λ k g. subst (λ (y : MemoryLink). TellsSame y (added step l)) (same l k (sym e ∙ g)) (step_same step l));
-    })
-    by (Some l) e (Err fault) a = subst (λ (y : Owner). OwnerStands t y x) (sym a) h
-
-    same : (y z : MemoryLink) → Some y ≡ Some z → y ≡ z
-    same y z g = cc
+    by (Some l) e (Ok left) a = subst (λ (y : Owner). OwnerStands t y x) (sym a.1) (linked_owner t s l (added step l) o x h e (step_same step l))
+    by (Some l) e (Err fault) a = subst (λ (y : Owner). OwnerStands t y x) (sym a) (linked_owner t s l l o x h e (record { pieces = refl; written = refl; at_end = refl; faults = refl }))
 
 pub step_added : {F : Type 0} (t : Terms) (all more : List Owner) (tables : ℕ → Table) (n session : ℕ) (step : LinkStep) (result : Result (Option LinkStep) F) → n < t.reactor_num → ReactorsStand t all tables → AtOwner all n (λ o q. Adds session step o result q) more → ReactorsStand t more tables
 step_added t all more tables n session step result lt h (o, (q, (there, (adds, e)))) =
