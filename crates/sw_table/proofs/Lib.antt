@@ -6,3 +6,4 @@ pub mod Waiting
 pub mod Notes
 pub mod Made
 pub mod Lending
+pub mod Parting
