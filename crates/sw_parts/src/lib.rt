@@ -6,14 +6,13 @@ mod bell;
 mod bellboard;
 mod lines;
 mod making;
-mod mesh;
 mod parts;
 mod plan;
+mod rows;
 
 pub use bell::{Bell, Bells};
 pub use bellboard::Bellboard;
 pub use lines::Lines;
 pub use making::{make_board, make_table};
-pub use mesh::mesh;
 pub use parts::{AllPipes, Parts, Pipes, all_pipes, first, named_seats};
 pub use plan::{house_of, terms_of};

@@ -3,7 +3,7 @@ ghost use Rattle.std.specs.Prelude.{◌≡◌, ◌≤◌, ◌<◌, All};
 
 use crate::bellboard::Bellboard;
 use crate::lines::Lines;
-use crate::mesh::mesh;
+use crate::rows::mesh;
 use std::alloc::Global;
 use sw_base::OutOfMemory;
 use sw_board::Seat;

@@ -11,6 +11,7 @@ use Rattle.sw_port_book.specs.declared.answers.ClaimFault.{ClaimFault}
 use Rattle.sw_port_book.specs.declared.answers.ClaimFault.TheVariants as claims
 use Rattle.sw_door.specs.declared.door.Door.{Door}
 use Rattle.sw_door.specs.Door.{Going, Claimed, AcceptsAs, Ends, GoesOn, Turns}
+use Rattle.sw_players.specs.Hears.{Heard, ListensAs}
 use Rattle.sw_reactor.proofs.Keeping.{by_bool}
 
 -- the same settings
@@ -66,3 +67,9 @@ module _ {N L K D C E W : Type 0} (was : N → W) (accepting : N → Accept L �
   turn_keeps_net d net desk b f gots.Empty e net_new desk_new c g ask h = net_goes d net desk b f e net_new desk_new c g ask h
   turn_keeps_net d net desk b f gots.Pushed e net_new desk_new c g ask h = net_goes d net desk b f e net_new desk_new c g ask h
   turn_keeps_net d net desk b f gots.Nothing e net_new desk_new c g ask h = net_goes d net desk b f e net_new desk_new c g ask h
+
+-- a door's turn leaves how its net was given
+pub turn_keeps_was : {N L K D C E : Type 0} (gives : N → Accept L → N → Type 0) (claiming : D → Result K ClaimFault → D → Type 0) (number : K → ℕ) (goes : Going C) (puts : E → L → Ended → Bool → E → Type 0) (d : Door) (net : Heard N) (desk : D) (b : C) (f : E) (got : Got (Msg L K)) (e : Door) (net_new : Heard N) (desk_new : D) (c : C) (g : E) (ask : Ask (Msg L K))
+    → Turns (ListensAs gives) claiming number goes puts d net desk b f got e net_new desk_new c g ask → net_new.was ≡ net.was
+turn_keeps_was {N} {L} gives claiming number goes puts d net desk b f got e net_new desk_new c g ask h =
+    turn_keeps_net (λ (l : Heard N). l.was) (ListensAs gives) claiming number goes puts (λ n a m k. k.2) d net desk b f got e net_new desk_new c g ask h

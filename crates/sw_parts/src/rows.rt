@@ -7,7 +7,7 @@ use sw_pipe::{Pipe, Sender, Taker};
 
 /// So many pipes, each with so many senders: the takers by their numbers, and for each sender's number a row of its senders, one for each
 /// pipe.
-pub fn mesh<M: Drop>(
+pub(crate) fn mesh<M: Drop>(
     alloc: Global,
     capacity: u32,
     pipes: u32,
