@@ -1,4 +1,7 @@
 //! What `serve` reads: settings on the first line, and rules on the others.
+ghost use Rattle.std.specs.Option.{option_copied};
+ghost use Rattle.sw_settings_json.specs.Json.{json_settings};
+ghost use Rattle.sw_serve.specs.Inputs.{rules_in, rules_behind, Reads, IsInputOf, SetsBy};
 
 use std::alloc::Global;
 use sw_script::{Script, ScriptFault, read};
@@ -24,32 +27,49 @@ pub enum InputRefusal {
     OutOfMemory,
 }
 
-fn rules(alloc: Global, text: &[u8]) -> Result<Option<Script>, InputRefusal> {
-    if text.is_empty() {
-        return Ok(None);
-    }
-    match read(alloc, text) {
-        Ok(script) => Ok(Some(script)),
-        Err(ScriptFault::BadLine(n)) => Err(InputRefusal::Line(n.saturating_add(1))),
-        Err(ScriptFault::OutOfMemory) => Err(InputRefusal::OutOfMemory),
+/// The rules of a text; an empty one has none.
+fn rules(alloc: Global, text: &[u8]) -> Result<Option<Script>, InputRefusal>
+    ensures { Reads (rules_in text.now) result }
+{
+    match text {
+        [] => Ok(None),
+        [_, ..] => match read(alloc, text) {
+            Ok(script) => Ok(Some(script)),
+            Err(ScriptFault::BadLine(n)) => Err(InputRefusal::Line(n.saturating_add(1))),
+            Err(ScriptFault::OutOfMemory) => Err(InputRefusal::OutOfMemory),
+        },
     }
 }
 
-fn settings(alloc: Global, text: &[u8]) -> Result<Settings, InputRefusal> {
+/// The rules of what stands behind the first line, if anything does.
+fn rules_behind(alloc: Global, text: Option<&[u8]>) -> Result<Option<Script>, InputRefusal>
+    ensures { Reads (rules_behind (option_copied text)) result }
+{
+    match text {
+        None => Ok(None),
+        Some(text) => rules(alloc, text),
+    }
+}
+
+/// The settings of a line.
+fn settings(alloc: Global, text: &[u8]) -> Result<Settings, InputRefusal>
+    ensures { SetsBy (json_settings text.now) result }
+{
     match from_json(alloc, text) {
         Ok(settings) => Ok(settings),
-        Err(SettingsFault::OutOfMemory) => Err(InputRefusal::OutOfMemory),
-        Err(fault) => Err(InputRefusal::Settings(fault)),
+        Err(fault) => match fault {
+            SettingsFault::OutOfMemory => Err(InputRefusal::OutOfMemory),
+            fault => Err(InputRefusal::Settings(fault)),
+        },
     }
 }
 
 /// Reads a whole input. A line that is no rule is told before the settings' fault.
-pub fn read_input(alloc: Global, text: &[u8]) -> Result<Input, InputRefusal> {
+pub fn read_input(alloc: Global, text: &[u8]) -> Result<Input, InputRefusal>
+    ensures { IsInputOf text.now result }
+{
     let (first, rest) = cut(text, 10);
-    let script = match rest {
-        None => None,
-        Some(rest) => rules(alloc, rest)?,
-    };
+    let script = rules_behind(alloc, rest)?;
     let settings = settings(alloc, first)?;
     Ok(Input { settings, script })
 }

@@ -1,16 +1,16 @@
-//! `serve`: its words, its input, the server that it runs and what it writes.
+//! `serve`: its input, the server that it runs, and what it writes.
 #![tactic(auto)]
 
 mod counting;
 mod following;
+mod handlers;
 mod input;
 mod serving;
 mod status;
-mod words;
+mod writing;
 
 pub use counting::Counting;
-pub use following::Following;
-pub use input::{Input, read_input};
+pub use following::{Following, follower};
+pub use input::{Input, InputRefusal, read_input};
 pub use serving::serve;
 pub use status::ServeStatus;
-pub use words::{Options, options_of};

@@ -14,6 +14,11 @@ abbrev pub port_named : ServeWords → Option ℕ → Option ServeWords
 port_named w None = None
 port_named w (Some n) = Some (record w { port = Some n })
 
+-- a port from 0 to 65,535, where none was named before
+abbrev pub with_port : Option ℕ → ServeWords → List ℕ → Option ServeWords
+with_port None w word = port_named w (number_within 0 65535 word)
+with_port (Some n) w word = None
+
 -- a number of links more, where it is one
 abbrev pub accept_named : ServeWords → Option ℕ → Option ServeWords
 accept_named w None = None
@@ -22,7 +27,7 @@ accept_named w (Some n) = Some (record w { accept = Some n })
 -- one option more: a port from 0 to 65,535, or a number of links from 1 to 4,294,967,295
 abbrev pub with_serve : ServeWords → List ℕ → List ℕ → Option ServeWords
 with_serve w name value =
-    if bytes_eq name (codes "--port") then port_named w (unset w.port (number_within 0 65535 value))
+    if bytes_eq name (codes "--port") then with_port w.port w value
     else if bytes_eq name (codes "--accept") then accept_named w (unset w.accept (number_within 1 4294967295 value))
     else None
 

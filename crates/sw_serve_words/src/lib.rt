@@ -3,8 +3,8 @@
 
 mod kind;
 mod load;
+mod once;
 mod serve;
-mod unset;
 
 pub use kind::{Kind, kind_of};
 pub use load::LoadWords;

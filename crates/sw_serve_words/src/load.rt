@@ -2,7 +2,7 @@
 ghost use Rattle.std.specs.Prelude.{◌≡◌, map, string_bytes};
 ghost use Rattle.sw_serve_words.specs.Load.{seed_named, connections_named, packets_named, with_load, load_words, plan_of};
 
-use crate::unset::unset;
+use crate::once::unset;
 use sw_load::Plan;
 use sw_text::{is, number_within};
 

@@ -1,21 +1,42 @@
 //! The words behind `serve`.
-ghost use Rattle.std.specs.Prelude.{◌≡◌, ◌≤◌, map, string_bytes, IfSome};
-ghost use Rattle.sw_serve_words.specs.Serve.{port_named, accept_named, with_serve, serve_words, IsWithin};
+ghost use Rattle.std.specs.Prelude.{◌≡◌, map, string_bytes};
+ghost use Rattle.sw_serve_words.specs.Serve.{port_named, with_port, accept_named, with_serve, serve_words};
+ghost use Rattle.sw_text.specs.Numbers.{number_within};
 
-use crate::unset::unset;
+use crate::once::unset;
 use sw_text::{is, number_within};
 
 /// What the words behind `serve` say.
 #[derive(Clone, Copy, Debug, PartialEq, Eq)]
 pub struct ServeWords {
     /// The port of 127.0.0.1 to listen on, where one is named: 0 to 65,535, 0 for one that the system picks.
-    pub port: Option<u64>,
+    pub port: Option<u16>,
     /// After how many links the net ends, where a number is named: 1 to 4,294,967,295.
     pub accept: Option<u64>,
 }
 
+/// The port of these words, where it is one.
+fn port_in(word: &[u8]) -> Option<u16>
+    ensures { result ≡ number_within 0 65535 word.now }
+{
+    match number_within(word, 0, 65_535) {
+        None => None,
+        Some(port) => Some(port as u16),
+    }
+}
+
+/// These words with a port, where none was named yet.
+fn with_port(words: ServeWords, word: &[u8]) -> Option<ServeWords>
+    ensures { result ≡ with_port words.port words word.now }
+{
+    match words.port {
+        Some(_) => None,
+        None => port_named(words, port_in(word)),
+    }
+}
+
 /// These words with a port.
-fn port_named(words: ServeWords, port: Option<u64>) -> Option<ServeWords>
+fn port_named(words: ServeWords, port: Option<u16>) -> Option<ServeWords>
     ensures { result ≡ port_named words port }
 {
     match port {
@@ -45,7 +66,7 @@ fn with_serve(words: ServeWords, name: &[u8], value: &[u8]) -> Option<ServeWords
     ensures { result ≡ with_serve words name.now value.now }
 {
     if is(name, "--port") {
-        port_named(words, unset(words.port, number_within(value, 0, 65_535)))
+        with_port(words, value)
     } else if is(name, "--accept") {
         accept_named(
             words,

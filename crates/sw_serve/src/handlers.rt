@@ -1,0 +1,47 @@
+//! The handlers and the ends that a server of `serve` is given.
+
+use crate::following::{Following, follower};
+use crate::input::Input;
+use std::alloc::Global;
+use sw_base::OutOfMemory;
+use sw_script::Script;
+
+/// So many handlers.
+pub fn some_handlers(
+    alloc: Global,
+    script: &Option<Script>,
+    count: u32,
+) -> Result<Vec<Following>, OutOfMemory> {
+    let mut all = Vec::with_capacity(alloc, count as usize)?;
+    for _ in 0..count {
+        all.push(follower(script)?)?;
+    }
+    Ok(all)
+}
+
+/// The handlers of all workers.
+pub fn worker_handlers(alloc: Global, input: &Input) -> Result<Vec<Vec<Following>>, OutOfMemory> {
+    let count = input.settings.worker_num();
+    let mut all = Vec::with_capacity(alloc, count as usize)?;
+    for _ in 0..count {
+        let some = some_handlers(alloc, &input.script, input.settings.generation_num())?;
+        all.push(some)?;
+    }
+    Ok(all)
+}
+
+/// So many of these ends.
+pub fn some_ends<E: Drop>(
+    alloc: Global,
+    mut ends: Vec<E>,
+    count: usize,
+) -> Result<Vec<E>, OutOfMemory> {
+    let mut some = Vec::with_capacity(alloc, count)?;
+    for _ in 0..count {
+        let Some(one) = ends.pop() else {
+            return Err(OutOfMemory);
+        };
+        some.push(one)?;
+    }
+    Ok(some)
+}
