@@ -1,5 +1,5 @@
 -- The board of seats.
-use Rattle.std.specs.Prelude.{List, [], ◌∷◌}
+use Rattle.std.specs.Prelude.{◌≡◌, ℕ, All, List, [], ◌∷◌}
 use Rattle.sw_board.specs.Values.{BoardId, SeatNow}
 use Rattle.sw_shared.specs.Nothing.{no_board}
 
@@ -7,3 +7,8 @@ use Rattle.sw_shared.specs.Nothing.{no_board}
 abbrev pub board_of : List SeatNow → BoardId
 board_of [] = no_board
 board_of (s ∷ ss) = s.board
+
+-- seats of one board, for so many workers and task workers
+abbrev pub IsBoardOf : ℕ → ℕ → List SeatNow → Type 0
+IsBoardOf workers taskers ss =
+    All (λ (s : SeatNow). s.board ≡ board_of ss) ss × ((board_of ss).sizes.workers ≡ workers) × ((board_of ss).sizes.taskers ≡ taskers)

@@ -1,7 +1,7 @@
 //! The board and the Table of a server.
-ghost use Rattle.std.specs.Prelude.{◌≡◌, All, IfOk};
+ghost use Rattle.std.specs.Prelude.{◌≡◌, IfOk};
 ghost use Rattle.std.specs.Arc.{arc_value};
-ghost use Rattle.sw_parts.specs.Boards.{board_of};
+ghost use Rattle.sw_parts.specs.Boards.{IsBoardOf};
 ghost use Rattle.sw_settings.specs.Columns.{columns_named};
 ghost use Rattle.sw_table_join.specs.Tables.{IsReady, IsHandsOf};
 
@@ -11,8 +11,9 @@ use sw_base::OutOfMemory;
 use sw_settings::Settings;
 
 /// The seats of the board of all actors.
+#[tactic(auto, using(crate::proofs::Boards::of_fresh))]
 pub fn make_board(alloc: Global, settings: &Settings) -> Result<Vec<sw_board::Seat>, OutOfMemory>
-    ensures { IfOk result (λ seats. All (λ s. s.board ≡ board_of seats.items) seats.items × ((board_of seats.items).sizes.workers ≡ settings.now.worker_num) × ((board_of seats.items).sizes.taskers ≡ settings.now.task_worker_num)) }
+    ensures { IfOk result (λ seats. IsBoardOf settings.now.worker_num settings.now.task_worker_num seats.items) }
 {
     let workers = settings.worker_num();
     let taskers = settings.task_worker_num();
