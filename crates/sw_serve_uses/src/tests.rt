@@ -26,13 +26,16 @@ fn one_link_under_turns(rt: HostRuntime) -> Result<(), Fail> {
         b"{\"open_eof_split\":true,\"package_eof\":\"\\r\\n\"}",
     )
     .expect(&rt, "settings");
-    let one = link(rt.alloc(), &[b"a\r", b"\nb\r\n"])
-        .ok()
-        .expect(&rt, "memory");
-    let links = vec![in rt.alloc(); (one, 2130706433)]?;
-    let ran = echo(rt, rt.alloc(), &settings, links, &mut Turns::new(300, None))
-        .ok()
-        .expect(&rt, "memory");
+    let ran = echo(
+        rt,
+        rt.alloc(),
+        &settings,
+        1,
+        &[b"a\r", b"\nb\r\n"],
+        &mut Turns::new(300, None),
+    )
+    .ok()
+    .expect(&rt, "memory");
     let stopped = ran.ok().expect(&rt, "an end");
     assert!(rt; stopped.ends[0].kept().len() == 1);
     assert!(rt; stopped.workers[0][0].log().len() == 6);
@@ -47,13 +50,16 @@ fn one_link_under_threads(rt: HostRuntime) -> Result<(), Fail> {
         b"{\"open_eof_split\":true,\"package_eof\":\"\\r\\n\",\"worker_num\":3,\"reactor_num\":2,\"task_worker_num\":1}",
     )
     .expect(&rt, "settings");
-    let one = link(rt.alloc(), &[b"a\r", b"\nb\r\n"])
-        .ok()
-        .expect(&rt, "memory");
-    let links = vec![in rt.alloc(); (one, 2130706433)]?;
-    let ran = echo(rt, rt.alloc(), &settings, links, &mut Threads {})
-        .ok()
-        .expect(&rt, "memory");
+    let ran = echo(
+        rt,
+        rt.alloc(),
+        &settings,
+        1,
+        &[b"a\r", b"\nb\r\n"],
+        &mut Threads {},
+    )
+    .ok()
+    .expect(&rt, "memory");
     let stopped = ran.ok().expect(&rt, "an end");
     assert!(rt; stopped.ends[1].kept().len() == 1);
     assert!(rt; stopped.workers[1][0].log().len() == 6);
@@ -88,20 +94,10 @@ fn six_bytes_come_back_over_sockets(rt: HostRuntime) -> Result<(), Fail> {
     Ok(())
 }
 
-/// Four links that wait, and nothing more.
-fn four(alloc: Global) -> Option<MemoryNet> {
-    let mut links = Vec::new(alloc);
-    for _ in 0..4 {
-        let one = link(alloc, &[b"a"]).ok()?;
-        links.push((one, 2130706433)).ok()?;
-    }
-    Some(MemoryNet::new(links, true, None))
-}
-
 #[test]
 fn six_rounds_are_too_few(rt: HostRuntime) -> Result<(), Fail> {
     let settings = settings(rt.alloc(), b"{}").expect(&rt, "settings");
-    let net = four(rt.alloc()).expect(&rt, "memory");
+    let net = net_of(rt.alloc(), 4, &[b"a"]).ok().expect(&rt, "memory");
     let ran = echo_over(rt, rt.alloc(), &settings, net, &mut Turns::new(6, None))
         .ok()
         .expect(&rt, "memory");
@@ -123,7 +119,7 @@ fn six_rounds_are_too_few(rt: HostRuntime) -> Result<(), Fail> {
 #[test]
 fn a_refused_start_accepts_nothing(rt: HostRuntime) -> Result<(), Fail> {
     let settings = settings(rt.alloc(), b"{}").expect(&rt, "settings");
-    let net = four(rt.alloc()).expect(&rt, "memory");
+    let net = net_of(rt.alloc(), 4, &[b"a"]).ok().expect(&rt, "memory");
     let ran = echo_over(
         rt,
         rt.alloc(),
@@ -144,7 +140,7 @@ fn a_refused_start_accepts_nothing(rt: HostRuntime) -> Result<(), Fail> {
 #[test]
 fn a_failed_accept_is_told(rt: HostRuntime) -> Result<(), Fail> {
     let settings = settings(rt.alloc(), b"{}").expect(&rt, "settings");
-    let net = MemoryNet::new(Vec::new(rt.alloc()), false, Some(0));
+    let net = MemoryNet::new(rt.alloc(), false, Some(0));
     let ran = echo_over(rt, rt.alloc(), &settings, net, &mut Threads {})
         .ok()
         .expect(&rt, "memory");

@@ -1,15 +1,16 @@
 //! A server over a net in memory.
+ghost use Rattle.sw_link.specs.MemoryNets.{IsNew};
 
 use std::alloc::Global;
 use std::sync::Wait;
 use std::thread::Threads;
 use sw_base::{Octets, OutOfMemory};
-use sw_data::{Ended, Log};
 use sw_handler::{Echo, Logged};
 use sw_link::{Keeper, LinkStep, MemoryLink, MemoryNet};
-use sw_run::{ServeFault, Stopped, run_server};
+use sw_run::{ServeFault, run_server};
 use sw_settings::Settings;
 use sw_spawn::Spawner;
+use sw_sweep::Stopped;
 
 /// What comes of a run over links in memory whose handlers keep logs.
 pub type Ran = Result<
@@ -17,16 +18,34 @@ pub type Ran = Result<
     ServeFault<MemoryNet, Keeper<MemoryLink>, Logged<Echo>, Logged<Echo>>,
 >;
 
+/// The IPv4 address of the peers, 127.0.0.1.
+const LOOPBACK: u32 = 2_130_706_433;
+
+/// Adds a piece of these bytes to what a link gives.
+fn add_piece(alloc: Global, link: &mut MemoryLink, piece: &[u8]) -> Result<(), OutOfMemory> {
+    let mut bytes = Octets::new(alloc);
+    bytes.extend(piece)?;
+    link.add(LinkStep::Piece(bytes))
+}
+
 /// A link that gives these pieces and then its end.
 pub fn link(alloc: Global, pieces: &[&[u8]]) -> Result<MemoryLink, OutOfMemory> {
     let mut link = MemoryLink::new(alloc);
     for piece in pieces {
-        let mut bytes = Octets::new(alloc);
-        bytes.extend(piece)?;
-        link.add(LinkStep::Piece(bytes))?;
+        add_piece(alloc, &mut link, piece)?;
     }
     link.add(LinkStep::End)?;
     Ok(link)
+}
+
+/// A net with so many links that each give these pieces and their end, and an end behind them.
+pub fn net_of(alloc: Global, count: u32, pieces: &[&[u8]]) -> Result<MemoryNet, OutOfMemory> {
+    let mut net = MemoryNet::new(alloc, true, None);
+    for _ in 0..count {
+        let one = link(alloc, pieces)?;
+        net.arrive(one, LOOPBACK)?;
+    }
+    Ok(net)
 }
 
 /// Echo for so many handlers.
@@ -38,15 +57,16 @@ fn handlers(alloc: Global, count: u32) -> Result<Vec<Logged<Echo>>, OutOfMemory>
     Ok(all)
 }
 
-/// Runs a server with Echo over these links and an end.
+/// Runs a server with Echo over so many links that each give these pieces, and an end.
 pub fn echo<P: Spawner, R: Threads + Wait + Copy + Send + 'static>(
     rt: R,
     alloc: Global,
     settings: &Settings,
-    links: Vec<(MemoryLink, u32)>,
+    count: u32,
+    pieces: &[&[u8]],
     spawner: &mut P,
 ) -> Result<Ran, OutOfMemory> {
-    let net = MemoryNet::new(links, true, None);
+    let net = net_of(alloc, count, pieces)?;
     echo_over(rt, alloc, settings, net, spawner)
 }
 
