@@ -1,4 +1,5 @@
 //! A server over a net in memory.
+ghost use Rattle.std.specs.Prelude.{IfOk, OnOk};
 ghost use Rattle.sw_link.specs.MemoryNets.{IsNew};
 
 use std::alloc::Global;
@@ -21,20 +22,35 @@ pub type Ran = Result<
 /// The IPv4 address of the peers, 127.0.0.1.
 const LOOPBACK: u32 = 2_130_706_433;
 
+/// One step more of a link's script.
+#[tactic(auto, using(crate::proofs::News::still_new))]
+fn add(link: &mut MemoryLink, step: LinkStep) -> Result<(), OutOfMemory>
+    requires { IsNew link.old }
+    ensures { OnOk result (IsNew link.new) }
+{
+    link.add(step)
+}
+
 /// Adds a piece of these bytes to what a link gives.
-fn add_piece(alloc: Global, link: &mut MemoryLink, piece: &[u8]) -> Result<(), OutOfMemory> {
+fn add_piece(alloc: Global, link: &mut MemoryLink, piece: &[u8]) -> Result<(), OutOfMemory>
+    requires { IsNew link.old }
+    ensures { OnOk result (IsNew link.new) }
+{
     let mut bytes = Octets::new(alloc);
     bytes.extend(piece)?;
-    link.add(LinkStep::Piece(bytes))
+    add(link, LinkStep::Piece(bytes))
 }
 
 /// A link that gives these pieces and then its end.
-pub fn link(alloc: Global, pieces: &[&[u8]]) -> Result<MemoryLink, OutOfMemory> {
+#[tactic(auto, using(crate::proofs::News::first_new))]
+pub fn link(alloc: Global, pieces: &[&[u8]]) -> Result<MemoryLink, OutOfMemory>
+    ensures { IfOk result IsNew }
+{
     let mut link = MemoryLink::new(alloc);
     for piece in pieces {
         add_piece(alloc, &mut link, piece)?;
     }
-    link.add(LinkStep::End)?;
+    add(&mut link, LinkStep::End)?;
     Ok(link)
 }
 
