@@ -49,14 +49,14 @@ impl<N: Net> Listening<N> {
     }
 }
 
-/// Whether an accept failed.
-fn is_failed<L>(answer: &Accept<L>) -> bool
-    ensures { result ≡ failed_by answer.now false }
+/// Whether an accept failed, this one or one before.
+fn failed_by<L>(answer: &Accept<L>, failed: bool) -> bool
+    ensures { result ≡ failed_by answer.now failed }
 {
     match answer {
-        Accept::Got(_, _) => false,
-        Accept::NotYet => false,
-        Accept::End => false,
+        Accept::Got(_, _) => failed,
+        Accept::NotYet => failed,
+        Accept::End => failed,
         Accept::Failed => true,
     }
 }
@@ -76,11 +76,10 @@ impl<N: Net> Net for Listening<N> {
 
     ghost accepts_count = { λ l m a gives. N.accepts_count l.net m.net a gives.0 };
 
+    #[tactic(auto, using(crate::proofs::Hearing::heard_more))]
     fn accept(&mut self) -> Accept<N::Link> {
         let answer = self.net.accept();
-        if is_failed(&answer) {
-            self.failed = true;
-        }
+        self.failed = failed_by(&answer, self.failed);
         answer
     }
 }
