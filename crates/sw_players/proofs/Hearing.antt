@@ -1,5 +1,6 @@
 -- What a net remembers stays true.
 use Rattle.std.proofs.Common.{◌≡◌, ◌≤◌, ℕ, ◌+◌, min, Bool, true, false, arith}
+use Rattle.std.proofs.Math.Nat.{min-le_left, min-le_right, le-min}
 use Rattle.sw_causes.specs.Causes.{Rises, most}
 use Rattle.sw_link.specs.declared.net.Accept.{Accept}
 use Rattle.sw_link.specs.declared.net.Accept.TheVariants as accepts
@@ -10,7 +11,11 @@ rises_on : (a b c : ℕ) → Rises a b → b ≤ c → Rises a c
 rises_on a b c r le = omega (arith, r, le)
 
 rises_from : (a b c : ℕ) → a ≤ b → Rises b c → Rises a c
-rises_from a b c le r = omega (arith, r, le)
+rises_from a b c le r =
+    let left : min (a + 1) most ≤ a + 1 = min-le_left (a + 1) most in
+    let right : min (a + 1) most ≤ most = min-le_right (a + 1) most in
+    let under : min (a + 1) most ≤ min (b + 1) most = le-min (omega (arith, left, le)) right in
+    omega (arith, under, r)
 
 -- a count that doesn't fall
 stays : (a b c : ℕ) (failed : Bool) → Hears a b failed → b ≤ c → Hears a c failed
