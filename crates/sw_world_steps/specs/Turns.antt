@@ -17,7 +17,7 @@ use Rattle.sw_world_laws.specs.World.{Core, Outcome, IsTurn}
 use Rattle.sw_world_hands.specs.Hands.{HandState, Crews}
 use Rattle.sw_hand.specs.declared.hand.Hand.{Hand as CodeHand}
 use Rattle.sw_hand_calls.specs.Calls.{PortCall}
-use Rattle.sw_world_hand_fits.specs.Hands.{Gone}
+use Rattle.sw_world_hand_fits.specs.Hands.{Gone, Numbered}
 use Rattle.sw_world_places.specs.Pipes.{Asking, Getting}
 use Rattle.sw_world_front.specs.declared.front.Front.{Front}
 use Rattle.sw_world_door.specs.Doors.{DoorState}
@@ -67,6 +67,7 @@ pub record HandGoes {H : Type 0} (t : Terms) (served : IsServed t) (crews : Crew
   pub gone : Gone t crews.limit y itself s (got_of got) k ask calls dids
   pub turn : IsTurn t (LegalFor shape) (server t served crews) c y (went dids (of_hand gone.state) ask) (got_of got)
   pub new : AskNew y ask
+  pub numbered : Numbered gone.state.stage
 
 -- a turn of a hand: with memory, or without; the door is as it was
 pub record HandWent {H : Type 0} (t : Terms) (served : IsServed t) (crews : Crews) (shape : Shape) (y : ActorId) (c : Core AState) (d : DoorState) (s : HandState) (got : Getting) (k : CodeHand H) (f : Front) (b : Words) (o : PlainWords) (q : PlainTable) (ask : Asking) (calls : List PortCall) : Type 0 where

@@ -17,10 +17,9 @@ ghost use Rattle.sw_world_fits.specs.Board.{number_of};
 ghost use Rattle.sw_hand.specs.Hand.{IsHand};
 ghost use Rattle.sw_hand.specs.declared.hand.Hand.{Hand as CodeHand};
 ghost use Rattle.sw_hand_calls.specs.Calls.{turn_calls_of, TurnsBy};
-ghost use Rattle.sw_hand_fits.specs.Matches.{IsNumberedStage, IsNumberedGot};
-ghost use Rattle.sw_world_hands.specs.Hands.{HandState, Crews, hand_got};
+ghost use Rattle.sw_world_hands.specs.Hands.{HandState, Crews};
 ghost use Rattle.sw_world_hand_fits.specs.Plain.{plain_rules};
-ghost use Rattle.sw_world_hand_fits.specs.Hands.{HandIs};
+ghost use Rattle.sw_world_hand_fits.specs.Hands.{HandIs, Numbered, Numbers};
 ghost use Rattle.sw_world_places.specs.Pipes.{Asking, Getting};
 ghost use Rattle.sw_world_places.specs.Places.{Rows};
 ghost use Rattle.sw_world_front.specs.declared.front.Front.{Front};
@@ -63,14 +62,15 @@ pub fn reactor_turns_are_the_worlds<E: Ends<MemoryLink>>()
         ReactorGoes kept_of t served crews shape n c d got r2 e2 f b2 o2 q ask }
 {}
 
-/// A turn of the code of a worker or a task worker is a turn of the world's, or it found no memory, as one of the world's finds none.
+/// A turn of the code of a worker or a task worker, whose handler acts on sessions other than 0, is a turn of the world's, or it found
+/// no memory, as one of the world's finds none.
 pub fn hand_turns_are_the_worlds<H: Handler>()
     ensures { (t : Terms) (served : IsServed t) (crews : Crews) (shape : Shape) (y : ActorId) (c : Core AState) (s : HandState)
         (d : DoorState) (h k : CodeHand H) (f : Front) (b b2 : Words) (o o2 : PlainWords) (q q2 : PlainTable) (got : Getting)
         (ask : Asking) (rows : Rows) → Law t (LegalFor shape) (server t served crews) c → IsHandOf t y →
         c.states y ≡ of_hand s → SharedStands t shape f b o q d c.ports →
         TurnIsDue t (LegalFor shape) (server t served crews) c y got rows → o.turn ≡ number_of t y → HandIs t y h s →
-        IsHand k → IsNumberedStage s.stage → IsNumberedGot (hand_got (got_of got)) →
+        IsHand k → Numbers H.acts → Numbered s.stage →
         let rules = plain_rules H.acts in
         (w : TurnsBy rules h b q o got k b2 q2 o2 ask) →
         HandWent t served crews shape y c d s got k f b2 o2 q2 ask (turn_calls_of rules h b q o got k b2 q2 o2 ask w.0) }
