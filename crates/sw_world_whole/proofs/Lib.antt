@@ -1,0 +1,4 @@
+pub mod Others
+pub mod Outside
+pub mod Calls
+pub mod Turns

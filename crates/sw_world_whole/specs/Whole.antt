@@ -1,0 +1,62 @@
+-- The code of the core stands for a world that keeps its law, and its steps are steps of the world.
+use Rattle.std.specs.Prelude.{◌≡◌, ℕ, true, false, slice_get, Some}
+use Rattle.sw_step.specs.declared.actor.ActorId.{ActorId}
+use Rattle.sw_step.specs.declared.actor.ActorId.TheVariants.{Door, Reactor, Worker, Tasker}
+use Rattle.sw_record.specs.Words.{Log}
+use Rattle.sw_record.specs.Terms.{Terms}
+use Rattle.sw_table_laws.specs.Table.{Shape}
+use Rattle.sw_join.specs.Legal.{LegalFor}
+use Rattle.sw_world_laws.specs.World.{Core, Step, there, next, MayStep}
+use Rattle.sw_world_laws.specs.Law.{Law}
+use Rattle.sw_hand.specs.declared.hand.Hand.{Hand as CodeHand}
+use Rattle.sw_worker.specs.Generations.{Line}
+use Rattle.sw_world_hands.specs.Hands.{HandState, Crews}
+use Rattle.sw_world_hand_fits.specs.Hands.{TaskerIs, WorkerIs, LineTells, Numbered}
+use Rattle.sw_reactor_table.specs.Reactor.{Reactor as Table}
+use Rattle.sw_world_reactor_fits.specs.Plain.{ReactorIs}
+use Rattle.sw_world_door.specs.Doors.{DoorState}
+use Rattle.sw_world_stands.specs.Rows.{RowsStand}
+use Rattle.sw_world_steps.specs.Server.{IsServed, server, AState, of_door, of_reactor, of_hand}
+use Rattle.sw_world_steps.specs.Shared.{SharedStands}
+use Rattle.sw_world_whole.specs.Parts.{Parts, Views}
+
+-- a worker's code: the family's state, whose sessions are none of number 0, and the log that its handlers tell
+pub record WorkerStands {H : Type 0} (t : Terms) (crews : Crews) (told : H → Log) (y : ActorId) (h : CodeHand (Line H)) (s : HandState) : Type 0 where
+  pub is : WorkerIs t crews y h s
+  pub numbered : Numbered s.stage
+  pub tells : LineTells told s.hand h.handler
+
+-- a task worker's
+pub record TaskerStands {T : Type 0} (t : Terms) (told : T → Log) (y : ActorId) (h : CodeHand T) (s : HandState) : Type 0 where
+  pub is : TaskerIs t y h s
+  pub numbered : Numbered s.stage
+  pub tells : told h.handler ≡ s.hand.log
+
+-- an actor's code, by its number; the door stands with what all share
+abbrev pub ActorStands : {O H T : Type 0} → (t : Terms) → Crews → Views O H T → Parts O H T → ActorId → AState → Type 0
+ActorStands t crews v P Door x = Unit {0}
+ActorStands {O} t crews v P (Reactor n) x = (o : O) × ((slice_get P.owners n ≡ Some o) × ((s : Table) × ((x ≡ of_reactor s) × ReactorIs t (v.reactor o) (v.kept o) s)))
+ActorStands {O} {H} t crews v P (Worker w) x = (h : CodeHand (Line H)) × ((slice_get P.workers w ≡ Some h) × ((s : HandState) × ((x ≡ of_hand s) × WorkerStands t crews v.worker (Worker w) h s)))
+ActorStands {O} {H} {T} t crews v P (Tasker k) x = (h : CodeHand T) × ((slice_get P.taskers k ≡ Some h) × ((s : HandState) × ((x ≡ of_hand s) × TaskerStands t v.tasker (Tasker k) h s)))
+
+-- the whole code; no step wanted memory so far
+pub record Stands {O H T : Type 0} (t : Terms) (served : IsServed t) (crews : Crews) (shape : Shape) (v : Views O H T) (P : Parts O H T) (c : Core AState) : Type 0 where
+  pub law : Law t (LegalFor shape) (server t served crews) c
+  pub sound : c.lost ≡ false
+  pub door : DoorState
+  pub is : c.states Door ≡ of_door door
+  pub shared : SharedStands t shape P.front P.book P.board P.shelf door c.ports
+  pub rows : RowsStand t P.rows c.nexts c.pipes
+  pub actors : (y : ActorId) → there t y ≡ true → ActorStands t crews v P y (c.states y)
+
+-- what the code came to is a step of the world
+pub record IsStep {O H T : Type 0} (t : Terms) (served : IsServed t) (crews : Crews) (shape : Shape) (v : Views O H T) (c : Core AState) (Q : Parts O H T) : Type 0 where
+  pub step : Step AState
+  pub may : MayStep t (LegalFor shape) (server t served crews) c step
+  pub stands : Stands t served crews shape v Q (next t (server t served crews) c step)
+
+-- or one that wanted memory
+pub record IsLostStep (t : Terms) (served : IsServed t) (crews : Crews) (shape : Shape) (c : Core AState) : Type 0 where
+  pub step : Step AState
+  pub may : MayStep t (LegalFor shape) (server t served crews) c step
+  pub lost : (next t (server t served crews) c step).lost ≡ true
