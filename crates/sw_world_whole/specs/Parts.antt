@@ -1,6 +1,5 @@
 -- What the code of the core has at one moment.
 use Rattle.std.specs.Prelude.{ℕ, List}
-use Rattle.sw_data.specs.declared.ended.Ended.{Ended}
 use Rattle.sw_link.specs.declared.memory_link.MemoryLink.{MemoryLink}
 use Rattle.sw_port_book.specs.Plain.{Words}
 use Rattle.sw_port_board.specs.PlainBoard.{PlainWords}
@@ -9,6 +8,7 @@ use Rattle.sw_tmodel.specs.Plain.{PlainTable}
 use Rattle.sw_hand.specs.declared.hand.Hand.{Hand as CodeHand}
 use Rattle.sw_worker.specs.Generations.{Line}
 use Rattle.sw_reactor.specs.declared.reactor.Reactor.{Reactor as CodeReactor}
+use Rattle.sw_world_places.specs.Ends.{Keeping}
 use Rattle.sw_world_places.specs.Places.{Rows}
 use Rattle.sw_world_front.specs.declared.front.Front.{Front}
 
@@ -23,9 +23,9 @@ pub record Parts (O H T : Type 0) : Type 0 where
   pub workers : List (CodeHand (Line H))
   pub taskers : List (CodeHand T)
 
--- how parts are seen: a reactor and what its ends keep, and what handlers tell that they were given and did
+-- how parts are seen: a reactor and its ends, and what handlers tell that they were given and did
 pub record Views (O H T : Type 0) : Type 0 where
   pub reactor : O → CodeReactor MemoryLink ℕ
-  pub kept : O → List (MemoryLink × Ended)
+  pub ends : O → Keeping
   pub worker : H → Log
   pub tasker : T → Log

@@ -6,6 +6,7 @@ use Rattle.sw_record.specs.Words.{Log}
 use Rattle.sw_record.specs.Terms.{Terms}
 use Rattle.sw_table_laws.specs.Table.{Shape}
 use Rattle.sw_join.specs.Legal.{LegalFor}
+use Rattle.sw_world_ports.specs.Ports.{Ports}
 use Rattle.sw_world_laws.specs.World.{Core, Step, there, next, MayStep}
 use Rattle.sw_world_laws.specs.Law.{Law}
 use Rattle.sw_hand.specs.declared.hand.Hand.{Hand as CodeHand}
@@ -15,6 +16,9 @@ use Rattle.sw_world_hand_fits.specs.Hands.{TaskerIs, WorkerIs, LineTells, Number
 use Rattle.sw_reactor_table.specs.Reactor.{Reactor as Table}
 use Rattle.sw_world_reactor_fits.specs.Plain.{ReactorIs}
 use Rattle.sw_world_door.specs.Doors.{DoorState}
+use Rattle.sw_world_places.specs.Ends.{HasRoom}
+use Rattle.sw_world_front.specs.declared.front.Front.{Front}
+use Rattle.sw_world_front_fits.specs.Front.{FrontStands}
 use Rattle.sw_world_stands.specs.Rows.{RowsStand}
 use Rattle.sw_world_steps.specs.Server.{IsServed, server, AState, of_door, of_reactor, of_hand}
 use Rattle.sw_world_steps.specs.Shared.{SharedStands}
@@ -35,7 +39,7 @@ pub record TaskerStands {T : Type 0} (t : Terms) (told : T → Log) (y : ActorId
 -- an actor's code, by its number; the door stands with what all share
 abbrev pub ActorStands : {O H T : Type 0} → (t : Terms) → Crews → Views O H T → Parts O H T → ActorId → AState → Type 0
 ActorStands t crews v P Door x = Unit {0}
-ActorStands {O} t crews v P (Reactor n) x = (o : O) × ((slice_get P.owners n ≡ Some o) × ((s : Table) × ((x ≡ of_reactor s) × ReactorIs t (v.reactor o) (v.kept o) s)))
+ActorStands {O} t crews v P (Reactor n) x = (o : O) × ((slice_get P.owners n ≡ Some o) × ((s : Table) × ((x ≡ of_reactor s) × ReactorIs t (v.reactor o) (v.ends o).kept s)))
 ActorStands {O} {H} t crews v P (Worker w) x = (h : CodeHand (Line H)) × ((slice_get P.workers w ≡ Some h) × ((s : HandState) × ((x ≡ of_hand s) × WorkerStands t crews v.worker (Worker w) h s)))
 ActorStands {O} {H} {T} t crews v P (Tasker k) x = (h : CodeHand T) × ((slice_get P.taskers k ≡ Some h) × ((s : HandState) × ((x ≡ of_hand s) × TaskerStands t v.tasker (Tasker k) h s)))
 
@@ -48,6 +52,15 @@ pub record Stands {O H T : Type 0} (t : Terms) (served : IsServed t) (crews : Cr
   pub shared : SharedStands t shape P.front P.book P.board P.shelf door c.ports
   pub rows : RowsStand t P.rows c.nexts c.pipes
   pub actors : (y : ActorId) → there t y ≡ true → ActorStands t crews v P y (c.states y)
+
+-- a reactor whose links' scripts went on, with room among its ends
+pub record GoesOn {O H T : Type 0} (t : Terms) (v : Views O H T) (o o1 : O) : Type 0 where
+  pub same : (s : Table) → ReactorIs t (v.reactor o) (v.ends o).kept s → ReactorIs t (v.reactor o1) (v.ends o1).kept s
+  pub room : HasRoom (v.ends o1)
+
+-- the front, of whose links steps were taken out
+abbrev pub FrontSame : Terms → Front → Front → Type 0
+FrontSame t f g = (s : DoorState) (p : Ports) → FrontStands t f s p → FrontStands t g s p
 
 -- what the code came to is a step of the world
 pub record IsStep {O H T : Type 0} (t : Terms) (served : IsServed t) (crews : Crews) (shape : Shape) (v : Views O H T) (c : Core AState) (Q : Parts O H T) : Type 0 where
