@@ -2,3 +2,4 @@ pub mod Others
 pub mod Outside
 pub mod Calls
 pub mod Turns
+pub mod Starts

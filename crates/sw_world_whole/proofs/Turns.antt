@@ -54,19 +54,11 @@ use Rattle.sw_world_steps.proofs.Door.{door_goes}
 use Rattle.sw_world_steps.proofs.Reactors.{reactor_goes}
 use Rattle.sw_world_steps.proofs.Hands.{hand_goes}
 use Rattle.sw_world_whole.specs.Parts.{Parts, Views}
-use Rattle.sw_world_whole.specs.Whole.{WorkerStands, TaskerStands, ActorStands, Stands, GoesOn, FrontSame, IsStep, IsLostStep}
+use Rattle.sw_world_whole.specs.Whole.{WorkerStands, TaskerStands, ActorStands, Stands, GoesOn, FrontSame, IsStep, IsLostStep, on_turn, AsksNext}
 use Rattle.sw_world_whole.proofs.Others.{one_more, same_actors, other_reactors, other_workers, other_taskers}
-
--- the board on an actor's turn
-abbrev pub on_turn : Terms → ActorId → PlainWords → PlainWords
-on_turn t y o = record o { turn = number_of t y }
 
 board_turn : (t : Terms) (y : ActorId) (o : PlainWords) (p : Ports) → BoardStands t o p → BoardStands t (on_turn t y o) p
 board_turn t y o p st = record { workers = st.workers; taskers = st.taskers; actors = st.actors; marks = st.marks; words = st.words; stopped = st.stopped; worker = st.worker; tasker = st.tasker; counts = st.counts }
-
--- what an actor asked is next for it
-abbrev pub AsksNext : Terms → ActorId → Rows → Asking → Rows → Type 0
-AsksNext t y r ask u = AtRow r (number_of t y) (λ a b. b ≡ record a { next = Asked ask }) u
 
 -- ends with room keep what is put
 keeps_all : (e : Keeping) → HasRoom e → Keeps Puts (λ (k : Keeping). k.kept) e
