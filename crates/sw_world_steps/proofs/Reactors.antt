@@ -60,14 +60,15 @@ low t served crews shape c h l n =
         let least : c.ports.last < 2 ^ 32 = subst (λ v. v < 2 ^ 32) (sym b.last_is) (claims_last t.max_conn t.session_last [] (collect accept_in (h.dids Door)) b.claims) in
         (w.0, let le : k ≤ c.ports.last = w.1 in omega (arith, le, least))))
 
-pub reactor_goes : {E : Type 0} (puts : E → MemoryLink → Ended → Bool → E → Type 0) (kept_of : E → List (MemoryLink × Ended)) (t : Terms) (served : IsServed t) (crews : Crews) (shape : Shape) (n : ℕ) (c : Core AState) (s : Table) (d : DoorState) (r r2 : CodeReactor MemoryLink ℕ) (f : Front) (b b2 : Words) (o o2 : PlainWords) (q : PlainTable) (e e2 : E) (got made : Getting) (ask : Asking) (rows : Rows) →
-    Law t (LegalFor shape) (server t served crews) c → n < t.reactor_num → c.states (Reactor n) ≡ of_reactor s → SharedStands t shape f b o q d c.ports → TurnIsDue t (LegalFor shape) (server t served crews) c (Reactor n) got rows → o.turn ≡ number_of t (Reactor n) →
-    ReactorIs t r (kept_of e) s → GotFirst (got_of got) s → got_of made ≡ got_of got → BringsNew memory_tells made → Keeps puts kept_of e → Turns (plain_ports puts) r made b o e ask r2 b2 o2 e2 → ReactorGoes kept_of t served crews shape n c d got r2 e2 f b2 o2 q ask
-reactor_goes {E} puts kept_of t served crews shape n c s d r r2 f b b2 o o2 q e e2 got made ask rows (past, l) lt is st due turn it first same new keeps turns =
+-- before its turn all that the bridge asks stands
+pub reactor_before : {E : Type 0} (puts : E → MemoryLink → Ended → Bool → E → Type 0) (kept_of : E → List (MemoryLink × Ended)) (t : Terms) (served : IsServed t) (crews : Crews) (shape : Shape) (n : ℕ) (c : Core AState) (s : Table) (d : DoorState) (r : CodeReactor MemoryLink ℕ) (f : Front) (b : Words) (o : PlainWords) (q : PlainTable) (e : E) (got made : Getting) (rows : Rows) →
+    (law : Law t (LegalFor shape) (server t served crews) c) → n < t.reactor_num → c.states (Reactor n) ≡ of_reactor s → SharedStands t shape f b o q d c.ports → TurnIsDue t (LegalFor shape) (server t served crews) c (Reactor n) got rows → o.turn ≡ number_of t (Reactor n) →
+    ReactorIs t r (kept_of e) s → GotFirst (got_of got) s → got_of made ≡ got_of got → BringsNew memory_tells made → Keeps puts kept_of e → Before puts kept_of t n c.ports s (diary_of law.0 (Reactor n)) r made b o e
+reactor_before {E} puts kept_of t served crews shape n c s d r f b o q e got made rows (past, l) lt is st due turn it first same new keeps =
     let legal = LegalFor shape in
     let word : reactor_got made ≡ got_of got = got_reactor made ∙ same in
     let quiet : RQuiet t (Reactor n) s (got_of got) (diary_of past (Reactor n)) = subst (λ (x : AState). (server t served crews).Quiet (Reactor n) x (got_of got) (diary_of past (Reactor n))) is (due.quiet past l) in
-    let before : Before puts kept_of t n c.ports s (diary_of past (Reactor n)) r made b o e = record {
+    record {
       lt = lt;
       some = served.slots;
       sizes = served.sizes;
@@ -85,7 +86,15 @@ reactor_goes {E} puts kept_of t served crews shape n c s d r r2 f b b2 o o2 q e 
       counts = l.ports.counts.cap;
       new = new;
       keeps = keeps;
-    } in
+    }
+
+pub reactor_goes : {E : Type 0} (puts : E → MemoryLink → Ended → Bool → E → Type 0) (kept_of : E → List (MemoryLink × Ended)) (t : Terms) (served : IsServed t) (crews : Crews) (shape : Shape) (n : ℕ) (c : Core AState) (s : Table) (d : DoorState) (r r2 : CodeReactor MemoryLink ℕ) (f : Front) (b b2 : Words) (o o2 : PlainWords) (q : PlainTable) (e e2 : E) (got made : Getting) (ask : Asking) (rows : Rows) →
+    Law t (LegalFor shape) (server t served crews) c → n < t.reactor_num → c.states (Reactor n) ≡ of_reactor s → SharedStands t shape f b o q d c.ports → TurnIsDue t (LegalFor shape) (server t served crews) c (Reactor n) got rows → o.turn ≡ number_of t (Reactor n) →
+    ReactorIs t r (kept_of e) s → GotFirst (got_of got) s → got_of made ≡ got_of got → BringsNew memory_tells made → Keeps puts kept_of e → Turns (plain_ports puts) r made b o e ask r2 b2 o2 e2 → ReactorGoes kept_of t served crews shape n c d got r2 e2 f b2 o2 q ask
+reactor_goes {E} puts kept_of t served crews shape n c s d r r2 f b b2 o o2 q e e2 got made ask rows (past, l) lt is st due turn it first same new keeps turns =
+    let legal = LegalFor shape in
+    let word : reactor_got made ≡ got_of got = got_reactor made ∙ same in
+    let before = reactor_before puts kept_of t served crews shape n c s d r f b o q e got made rows (past, l) lt is st due turn it first same new keeps in
     let k : TurnIs kept_of t legal n c.ports s made r2 ask b2 o o2 e2 = turn_is puts kept_of t legal n c.ports s (diary_of past (Reactor n)) r r2 made ask b b2 o o2 e e2 before turns in
     let goes : ReactorTurn t s (got_of got) k.dids k.state (ask_of ask) = subst (λ (a : Ask). ReactorTurn t s (got_of got) k.dids k.state a) (ask_reactor ask) (subst (λ (g : Got). ReactorTurn t s g k.dids k.state (reactor_ask ask)) word k.turns) in
     let did : (server t served crews).Turn (Reactor n) (c.states (Reactor n)) (got_of got) (handed (server t served crews).has c (Reactor n)) k.dids (of_reactor k.state) (ask_of ask) =

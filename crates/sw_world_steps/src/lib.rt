@@ -4,4 +4,6 @@
 
 mod turns;
 
-pub use turns::{door_turns_are_the_worlds, hand_turns_are_the_worlds, reactor_turns_are_the_worlds};
+pub use turns::{
+    door_turns_are_the_worlds, hand_turns_are_the_worlds, reactor_turns_are_the_worlds, reactor_turns_may_be_made,
+};

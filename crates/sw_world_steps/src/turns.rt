@@ -12,6 +12,7 @@ ghost use Rattle.sw_table_laws.specs.Table.{Shape};
 ghost use Rattle.sw_join.specs.Legal.{LegalFor};
 ghost use Rattle.sw_tmodel.specs.Plain.{PlainTable};
 ghost use Rattle.sw_world_laws.specs.World.{Core};
+ghost use Rattle.sw_world_laws.specs.History.{diary_of};
 ghost use Rattle.sw_world_laws.specs.Law.{Law};
 ghost use Rattle.sw_world_fits.specs.Board.{number_of};
 ghost use Rattle.sw_hand.specs.Hand.{IsHand};
@@ -32,6 +33,7 @@ ghost use Rattle.sw_reactor.specs.Serving.{Turns};
 ghost use Rattle.sw_reactor_fits.specs.Told.{BringsNew};
 ghost use Rattle.sw_world_reactor.specs.Reactors.{GotFirst};
 ghost use Rattle.sw_world_reactor_fits.specs.Plain.{memory_tells, plain_ports, ReactorIs};
+ghost use Rattle.sw_world_reactor_fits.specs.Turns.{Before};
 ghost use Rattle.sw_world_asks.specs.Due.{TurnIsDue};
 ghost use Rattle.sw_world_steps.specs.Server.{IsServed, server, AState, of_door, of_reactor, of_hand};
 ghost use Rattle.sw_world_steps.specs.Shared.{SharedStands};
@@ -47,6 +49,19 @@ pub fn door_turns_are_the_worlds()
         Law t (LegalFor shape) (server t served crews) c → c.states Door ≡ of_door s → SharedStands t shape f b o q s c.ports →
         TurnIsDue t (LegalFor shape) (server t served crews) c Door got rows → o.turn ≡ number_of t Door →
         TurnsFront f b o got h b2 o2 ask → DoorGoes t served crews shape c got h b2 o2 q ask }
+{}
+
+/// What the bridge of a reactor asks stands before its turn.
+pub fn reactor_turns_may_be_made<E: Ends<MemoryLink>>()
+    ensures { (kept_of : E → List (MemoryLink × Ended)) (t : Terms) (served : IsServed t) (crews : Crews) (shape : Shape) (n : ℕ)
+        (c : Core AState) (s : Table) (d : DoorState) (r : CodeReactor MemoryLink ℕ) (f : Front) (b : Words) (o : PlainWords)
+        (q : PlainTable) (e : E) (got made : Getting) (rows : Rows) →
+        (law : Law t (LegalFor shape) (server t served crews) c) → n < t.reactor_num → c.states (Reactor n) ≡ of_reactor s →
+        SharedStands t shape f b o q d c.ports →
+        TurnIsDue t (LegalFor shape) (server t served crews) c (Reactor n) got rows → o.turn ≡ number_of t (Reactor n) →
+        ReactorIs t r (kept_of e) s → GotFirst (got_of got) s → got_of made ≡ got_of got → BringsNew memory_tells made →
+        Keeps E.put_gives kept_of e →
+        Before E.put_gives kept_of t n c.ports s (diary_of law.0 (Reactor n)) r made b o e }
 {}
 
 /// A turn of a reactor's code is a turn of the world's reactor; what it begins with may bring a link whose script went on.
