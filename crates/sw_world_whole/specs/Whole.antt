@@ -11,6 +11,7 @@ use Rattle.sw_port_board.specs.PlainBoard.{PlainWords, plain_words, no_counts}
 use Rattle.sw_world_ports.specs.Ports.{Ports, new_ports}
 use Rattle.sw_world_laws.specs.World.{Core, Step, there, next, MayStep}
 use Rattle.sw_world_laws.specs.Law.{Law}
+use Rattle.sw_hand.specs.Hand.{HasRow}
 use Rattle.sw_hand.specs.declared.hand.Hand.{Hand as CodeHand}
 use Rattle.sw_worker.specs.Generations.{Line}
 use Rattle.sw_world_fits.specs.Board.{number_of}
@@ -31,22 +32,25 @@ use Rattle.sw_world_steps.specs.Server.{IsServed, server, AState, of_door, of_re
 use Rattle.sw_world_steps.specs.Shared.{SharedStands}
 use Rattle.sw_world_whole.specs.Parts.{Parts, Views}
 
--- a worker's code: the family's state, whose sessions are none of number 0, and the log that its handlers tell
+-- a worker's code: the family's state, whose sessions are none of number 0, a row with the Table's columns, and the log that its
+-- handlers tell
 pub record WorkerStands {H : Type 0} (t : Terms) (crews : Crews) (told : H → Log) (y : ActorId) (h : CodeHand (Line H)) (s : HandState) : Type 0 where
   pub is : WorkerIs t crews y h s
   pub numbered : Numbered s.stage
+  pub row : HasRow t.columns h.house h.row
   pub tells : LineTells told s.hand h.handler
 
 -- a task worker's
 pub record TaskerStands {T : Type 0} (t : Terms) (told : T → Log) (y : ActorId) (h : CodeHand T) (s : HandState) : Type 0 where
   pub is : TaskerIs t y h s
   pub numbered : Numbered s.stage
+  pub row : HasRow t.columns h.house h.row
   pub tells : told h.handler ≡ s.hand.log
 
 -- an actor's code, by its number; the door stands with what all share
 abbrev pub ActorStands : {O H T : Type 0} → (t : Terms) → Crews → Views O H T → Parts O H T → ActorId → AState → Type 0
 ActorStands t crews v P Door x = Unit {0}
-ActorStands {O} t crews v P (Reactor n) x = (o : O) × ((slice_get P.owners n ≡ Some o) × ((s : Table) × ((x ≡ of_reactor s) × ReactorIs t (v.reactor o) (v.ends o).kept s)))
+ActorStands {O} t crews v P (Reactor n) x = (o : O) × ((slice_get P.owners n ≡ Some o) × ((s : Table) × ((x ≡ of_reactor s) × ReactorIs t (v.reactor o) (v.ends o).kept s × v.ready o)))
 ActorStands {O} {H} t crews v P (Worker w) x = (h : CodeHand (Line H)) × ((slice_get P.workers w ≡ Some h) × ((s : HandState) × ((x ≡ of_hand s) × WorkerStands t crews v.worker (Worker w) h s)))
 ActorStands {O} {H} {T} t crews v P (Tasker k) x = (h : CodeHand T) × ((slice_get P.taskers k ≡ Some h) × ((s : HandState) × ((x ≡ of_hand s) × TaskerStands t v.tasker (Tasker k) h s)))
 
@@ -92,7 +96,7 @@ pub record IsLostStep (t : Terms) (served : IsServed t) (crews : Crews) (shape :
 -- before any step: the code of an actor before its first turn
 abbrev pub ActorIsNew : {O H T : Type 0} → (t : Terms) → Crews → Views O H T → Parts O H T → ActorId → Type 0
 ActorIsNew t crews v P Door = Unit {0}
-ActorIsNew {O} t crews v P (Reactor n) = (o : O) × ((slice_get P.owners n ≡ Some o) × ReactorIs t (v.reactor o) (v.ends o).kept started)
+ActorIsNew {O} t crews v P (Reactor n) = (o : O) × ((slice_get P.owners n ≡ Some o) × (ReactorIs t (v.reactor o) (v.ends o).kept started × v.ready o))
 ActorIsNew {O} {H} t crews v P (Worker w) = (h : CodeHand (Line H)) × ((slice_get P.workers w ≡ Some h) × WorkerStands t crews v.worker (Worker w) h (new_hand (crews.left (Worker w))))
 ActorIsNew {O} {H} {T} t crews v P (Tasker k) = (h : CodeHand T) × ((slice_get P.taskers k ≡ Some h) × TaskerStands t v.tasker (Tasker k) h (new_hand (crews.left (Tasker k))))
 

@@ -9,7 +9,7 @@ ghost use Rattle.sw_table_laws.specs.Table.{Shape};
 ghost use Rattle.sw_tmodel.specs.Plain.{PlainTable};
 ghost use Rattle.sw_world_laws.specs.World.{Core, there};
 ghost use Rattle.sw_world_fits.specs.Board.{number_of};
-ghost use Rattle.sw_hand.specs.Hand.{IsHand};
+ghost use Rattle.sw_hand.specs.Hand.{IsHand, HasRow};
 ghost use Rattle.sw_hand.specs.declared.hand.Hand.{Hand as CodeHand};
 ghost use Rattle.sw_hand_calls.specs.Calls.{TurnsBy};
 ghost use Rattle.sw_worker.specs.Generations.{Line, Acts};
@@ -59,7 +59,7 @@ pub fn a_reactors_turn_is_a_step<O, H, T>()
         got_of made ≡ got_of got → BringsNew memory_tells made →
         ((s : Table) → c.states (Reactor n) ≡ of_reactor s → GotFirst (got_of got) s) →
         Turns (plain_ports Puts) (v.reactor o1) made P.book (on_turn t (Reactor n) P.board) (v.ends o1) ask (v.reactor o2) b o (v.ends o2) →
-        AsksNext t (Reactor n) mid ask u →
+        AsksNext t (Reactor n) mid ask u → v.ready o2 →
         IsStep t served crews shape v c (record P { front = f; rows = u; book = b; board = o; owners = slice_set P.owners n o2 }) }
 {}
 
@@ -71,7 +71,7 @@ pub fn a_workers_turn_is_a_step<O, H: Handler, T>()
         Numbers H.acts → Tells v.worker H.acts → n < t.worker_num →
         Goes P.rows (number_of t (Worker n)) (Some got) mid → slice_get P.workers n ≡ Some h → IsHand k →
         TurnsBy (plain_rules (Acts H.acts)) h P.book P.shelf (on_turn t (Worker n) P.board) got k b q o ask →
-        AsksNext t (Worker n) mid ask u →
+        AsksNext t (Worker n) mid ask u → HasRow t.columns k.house k.row →
         ((k.lost ≡ true) × IsLostStep t served crews shape c) ⊎ ((k.lost ≡ false)
         × IsStep t served crews shape v c (record P { rows = u; book = b; board = o; shelf = q; workers = slice_set P.workers n k })) }
 {}
@@ -83,7 +83,7 @@ pub fn a_taskers_turn_is_a_step<O, H, T: Handler>()
         (b : Words) (q : PlainTable) (o : PlainWords) (ask : Asking) → Numbers T.acts → Tells v.tasker T.acts →
         n < t.tasker_num → Goes P.rows (number_of t (Tasker n)) (Some got) mid → slice_get P.taskers n ≡ Some h → IsHand k →
         TurnsBy (plain_rules T.acts) h P.book P.shelf (on_turn t (Tasker n) P.board) got k b q o ask →
-        AsksNext t (Tasker n) mid ask u →
+        AsksNext t (Tasker n) mid ask u → HasRow t.columns k.house k.row →
         ((k.lost ≡ true) × IsLostStep t served crews shape c) ⊎ ((k.lost ≡ false)
         × IsStep t served crews shape v c (record P { rows = u; book = b; board = o; shelf = q; taskers = slice_set P.taskers n k })) }
 {}
