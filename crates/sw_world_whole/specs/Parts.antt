@@ -23,10 +23,9 @@ pub record Parts (O H T : Type 0) : Type 0 where
   pub workers : List (CodeHand (Line H))
   pub taskers : List (CodeHand T)
 
--- how parts are seen: a reactor and its ends, whether it is ready for a turn, and what handlers tell that they were given and did
-pub record Views (O H T : Type 0) : Type 1 where
+-- how parts are seen: a reactor and its ends, and what handlers tell that they were given and did
+pub record Views (O H T : Type 0) : Type 0 where
   pub reactor : O → CodeReactor MemoryLink ℕ
   pub ends : O → Keeping
-  pub ready : O → Type 0
   pub worker : H → Log
   pub tasker : T → Log

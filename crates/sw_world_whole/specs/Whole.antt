@@ -50,7 +50,7 @@ pub record TaskerStands {T : Type 0} (t : Terms) (told : T → Log) (y : ActorId
 -- an actor's code, by its number; the door stands with what all share
 abbrev pub ActorStands : {O H T : Type 0} → (t : Terms) → Crews → Views O H T → Parts O H T → ActorId → AState → Type 0
 ActorStands t crews v P Door x = Unit {0}
-ActorStands {O} t crews v P (Reactor n) x = (o : O) × ((slice_get P.owners n ≡ Some o) × ((s : Table) × ((x ≡ of_reactor s) × ReactorIs t (v.reactor o) (v.ends o).kept s × v.ready o)))
+ActorStands {O} t crews v P (Reactor n) x = (o : O) × ((slice_get P.owners n ≡ Some o) × ((s : Table) × ((x ≡ of_reactor s) × ReactorIs t (v.reactor o) (v.ends o).kept s)))
 ActorStands {O} {H} t crews v P (Worker w) x = (h : CodeHand (Line H)) × ((slice_get P.workers w ≡ Some h) × ((s : HandState) × ((x ≡ of_hand s) × WorkerStands t crews v.worker (Worker w) h s)))
 ActorStands {O} {H} {T} t crews v P (Tasker k) x = (h : CodeHand T) × ((slice_get P.taskers k ≡ Some h) × ((s : HandState) × ((x ≡ of_hand s) × TaskerStands t v.tasker (Tasker k) h s)))
 
@@ -96,7 +96,7 @@ pub record IsLostStep (t : Terms) (served : IsServed t) (crews : Crews) (shape :
 -- before any step: the code of an actor before its first turn
 abbrev pub ActorIsNew : {O H T : Type 0} → (t : Terms) → Crews → Views O H T → Parts O H T → ActorId → Type 0
 ActorIsNew t crews v P Door = Unit {0}
-ActorIsNew {O} t crews v P (Reactor n) = (o : O) × ((slice_get P.owners n ≡ Some o) × (ReactorIs t (v.reactor o) (v.ends o).kept started × v.ready o))
+ActorIsNew {O} t crews v P (Reactor n) = (o : O) × ((slice_get P.owners n ≡ Some o) × ReactorIs t (v.reactor o) (v.ends o).kept started)
 ActorIsNew {O} {H} t crews v P (Worker w) = (h : CodeHand (Line H)) × ((slice_get P.workers w ≡ Some h) × WorkerStands t crews v.worker (Worker w) h (new_hand (crews.left (Worker w))))
 ActorIsNew {O} {H} {T} t crews v P (Tasker k) = (h : CodeHand T) × ((slice_get P.taskers k ≡ Some h) × TaskerStands t v.tasker (Tasker k) h (new_hand (crews.left (Tasker k))))
 

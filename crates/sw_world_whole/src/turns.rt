@@ -59,7 +59,7 @@ pub fn a_reactors_turn_is_a_step<O, H, T>()
         got_of made ≡ got_of got → BringsNew memory_tells made →
         ((s : Table) → c.states (Reactor n) ≡ of_reactor s → GotFirst (got_of got) s) →
         Turns (plain_ports Puts) (v.reactor o1) made P.book (on_turn t (Reactor n) P.board) (v.ends o1) ask (v.reactor o2) b o (v.ends o2) →
-        AsksNext t (Reactor n) mid ask u → v.ready o2 →
+        AsksNext t (Reactor n) mid ask u →
         IsStep t served crews shape v c (record P { front = f; rows = u; book = b; board = o; owners = slice_set P.owners n o2 }) }
 {}
 
