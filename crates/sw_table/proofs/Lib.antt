@@ -7,3 +7,4 @@ pub mod Notes
 pub mod Made
 pub mod Lending
 pub mod Parting
+pub mod Copied

@@ -14,7 +14,7 @@ use Rattle.sw_rowlock.specs.declared.locks.DrawFault.TheVariants as draws
 use Rattle.sw_table_join.specs.declared.table_call.TableCall.{TableCall}
 use Rattle.sw_table_join.specs.Calls.{Answer, IsFor, call_row, call_asks, call_does}
 use Rattle.sw_table_join.specs.Tables.{SharedNow, SeatView, IsShared, IsReady, call_on, rows_after}
-use Rattle.sw_table_join.proofs.Answering.{answers_follow, buckets_follow, the_history}
+use Rattle.sw_table_join.proofs.Answering.{left, answers_follow, buckets_follow, the_history}
 use Rattle.sw_tmodel.specs.declared.dump_row.DumpRow.{DumpRow}
 use Rattle.sw_tmodel.specs.Dumps.{AreRowsOf}
 use Rattle.sw_row.specs.Packed.{Packed}
@@ -41,9 +41,10 @@ pub holds_part : (t : SharedNow) (b : ℕ) (rows : List Packed) (x : BucketNow) 
     → seat ≡ record old { row = Some (b, x) } → HoldsPart t b rows seat
 holds_part t b rows x old seat is r near left made sound e =
     let columns : x.columns ≡ t.columns = (buckets_follow t old b x is near left).0 in
+    let same : x ≡ bucket_of t rows = made ∙ ap (λ cs. record { columns = cs; rows = rows_by rows }) columns in
     record {
       of = (ap (λ (w : SeatView). w.id) e ∙ r.of.0, ap (λ (w : SeatView). w.start) e ∙ r.of.1);
-      row = ap (λ (w : SeatView). w.row) e ∙ ap (λ (z : BucketNow). Some (b, z)) made ∙ (λ i. Some (b, record { columns = columns i; rows = rows_by rows }));
+      row = ap (λ (w : SeatView). w.row) e ∙ ap (λ (z : BucketNow). Some (b, z)) same;
       no_pool = ap (λ (w : SeatView). w.pool) e ∙ r.no_pool;
       near = near;
       bucket = subst (λ cs. IsBucket cs rows) columns sound;
@@ -70,9 +71,9 @@ module _ (t : SharedNow) (b : ℕ) (rows : List Packed) (held : SeatView) (h : H
   parted mid new p n old' new' added is lt d e copies behind =
       let before : List TableCall = calls held.seen ++ d.between in
       let seen : new.seen ≡ held.seen ++ (others d.between ++ (1, call_on t Count) ∷ []) = ap (λ (w : SeatView). w.seen) e ∙ ap (λ (w : SeatView). w.seen) d.now in
-      let left = (the_history t before is d.allowed).left.buckets b h.near in
-      let there = subst (λ (r : Option (ℕ × BucketNow)). MatchOption r (Unit {0}) (λ x. slice_get _ x.0 ≡ Some x.1)) h.row d.bucket in
-      let state : rows_by rows ≡ part t.size (rows_after t before) b = ap (λ (x : BucketNow). x.rows) (same_some (bucket_of t rows) _ (sym there ∙ left)) in
+      let has = (the_history t before is d.allowed).left.buckets b h.near in
+      let there = subst (λ (r : Option (ℕ × BucketNow)). MatchOption r (Unit {0}) (λ x. slice_get (left t before).rows x.0 ≡ Some x.1)) h.row d.bucket in
+      let state : rows_by rows ≡ part t.size (rows_after t before) b = ap (λ (x : BucketNow). x.rows) (same_some (bucket_of t rows) _ (sym there ∙ has)) in
       record {
         call = answered_free t held new Count [] [] p (replies.Count n)
             (answers_follow t Count held mid new p n [] [] (replies.Count n) [] is refl lt d (ap (λ (w : SeatView). w.seen) e) (ap (λ (x : Done BucketNow PoolNow Answer). x.reply) (count_done t Count held n refl)) refl);

@@ -1,5 +1,4 @@
 //! Threads on one Table, judged by an audit, and a bucket copied out of it.
-ghost use Rattle.std.specs.Prelude.{◌≡◌};
 ghost use Rattle.sw_column.specs.Values.{HasKinds};
 ghost use Rattle.sw_table_join.specs.Tables.{IsReady};
 
