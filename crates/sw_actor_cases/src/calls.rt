@@ -15,7 +15,9 @@ fn put_read(
     link: &mut MemoryLink,
     text: &str,
 ) -> Result<(), OutOfMemory> {
-    let room = number_within(text.as_bytes(), 1, 65_536).unwrap_or(1).max(1);
+    let room = number_within(text.as_bytes(), 1, 65_536)
+        .unwrap_or(1)
+        .max(1);
     let mut buf = vec![in alloc; 0u8; room as usize]?;
     write!(out, "read {room} -> ")?;
     match link.read(&mut buf) {

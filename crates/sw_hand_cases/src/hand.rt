@@ -1,7 +1,9 @@
 //! Cases of a worker and of a task worker: their turns, with what book, Table, board and handler answer.
 
 use crate::playing::{CaseMessage, Play};
-use crate::settings::{handler_of, handlers_of, house_of, is_small, schema_of, script_of, start_of};
+use crate::settings::{
+    handler_of, handlers_of, house_of, is_small, schema_of, script_of, start_of,
+};
 use std::alloc::Global;
 use sw_base::{CallFault, Counter, OutOfMemory, WordId};
 use sw_case_lines::{message, put_ask};

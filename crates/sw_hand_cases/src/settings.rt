@@ -99,7 +99,11 @@ pub fn handler_of(alloc: Global, script: Script, starve: Option<u64>) -> CaseHan
     Logged::new(alloc, inner)
 }
 
-pub fn handlers_of(alloc: Global, script: Script, start: Start) -> Result<Vec<CaseHandler>, OutOfMemory>
+pub fn handlers_of(
+    alloc: Global,
+    script: Script,
+    start: Start,
+) -> Result<Vec<CaseHandler>, OutOfMemory>
     ensures { IfOk result (λ handlers. 0 < length handlers.items) }
 {
     let mut handlers = Vec::new(alloc);
