@@ -92,7 +92,8 @@ fn put_accept(out: &mut String, net: &mut MemoryNet) -> Result<(), OutOfMemory> 
     Ok(())
 }
 
-/// Plays the case: `net`, with an end from the start where it has the word `ends`, with the number of the accept that fails, and lines of what arrives and of accepts.
+/// Plays the case: `net`, with an end from the start where it has the word `ends`, with the number of the accept that
+/// fails, and lines of what arrives and of accepts.
 pub fn put_net(
     alloc: Global,
     out: &mut String,
@@ -128,7 +129,8 @@ fn ended_of(ip: u32) -> Ended {
     }
 }
 
-/// Plays the case: `keeper`, with lines of links that are put, each named by a number, which stands for its address too.
+/// Plays the case: `keeper`, with lines of links that are put, each named by a number, which stands for its address
+/// too.
 pub fn put_keeper(alloc: Global, out: &mut String, case: &Case) -> Result<(), OutOfMemory> {
     let mut keeper: Keeper<u32> = Keeper::new(alloc);
     for line in &case.lines {

@@ -1,6 +1,6 @@
-//! Plays the cases of door and reactor that standard input lists, and prints for each what came out: single turns over ports whose
-//! answers the case gives, and calls of the forms in memory of links, nets and ends.
-//! The head of the stored standard input says how a case is written.
+//! Plays the cases of door and reactor that standard input lists, and prints for each what came out: single turns over
+//! ports whose answers the case gives, and calls of the forms in memory of links, nets and ends. The head of the stored
+//! standard input says how a case is written.
 #![tactic(auto)]
 
 mod calls;

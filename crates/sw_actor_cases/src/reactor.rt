@@ -33,7 +33,8 @@ struct Play {
     asked: Option<Msg<CaseLink, CaseTicket>>,
 }
 
-/// How the bytes of links are cut: at `mark`, or by a length field of one byte to whose number `field` is added, or piece by piece.
+/// How the bytes of links are cut: at `mark`, or by a length field of one byte to whose number `field` is added, or
+/// piece by piece.
 fn framing_of(alloc: Global, words: &str) -> Result<Framing, OutOfMemory> {
     let max = number_of(words, "max", 8_388_608, 16);
     if text_of(words, "mark").is_some() {

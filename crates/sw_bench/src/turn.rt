@@ -1,5 +1,5 @@
-//! How long a reactor takes for a serve with nothing to do, for a packet that is cut and pushed, and for a send that is settled, with
-//! few and with many connections.
+//! How long a reactor takes for a serve with nothing to do, for a packet that is cut and pushed, and for a send that is
+//! settled, with few and with many connections.
 ghost use Rattle.std.specs.Prelude.{◌≡◌};
 
 use crate::figures::{NO_MEMORY, print_each};

@@ -1,4 +1,5 @@
-//! Lines of actors' cases: what a pipe call gave and the script of a link, read; what an actor asked and what is said of a link, printed.
+//! Lines of actors' cases: what a pipe call gave and the script of a link, read; what an actor asked and what is said
+//! of a link, printed.
 #![tactic(auto)]
 
 mod asks;

@@ -6,8 +6,8 @@ use crate::ticket::CaseTicket;
 use sw_base::Session;
 use sw_port_book::{BindFault, Book, Look, Ticketed};
 
-/// A book of so many slots, whatever slot is asked for: each call finds the one word that was set. It shows what was asked
-/// since it was cleared.
+/// A book of so many slots, whatever slot is asked for: each call finds the one word that was set. It shows what was
+/// asked since it was cleared.
 #[derive(Drop, Debug)]
 pub struct CaseBook {
     pub size: u32,

@@ -1,6 +1,6 @@
-//! Ports whose answers a program sets from turn to turn: a desk, a book whose calls find the word that was set, ends that give a
-//! link back where that was set, and links whose calls are written down. For programs beside the house, which play single turns or
-//! measure them.
+//! Ports whose answers a program sets from turn to turn: a desk, a book whose calls find the word that was set, ends
+//! that give a link back where that was set, and links whose calls are written down. For programs beside the house,
+//! which play single turns or measure them.
 #![tactic(auto)]
 
 mod book;

@@ -160,8 +160,8 @@ impl<L: Drop> Scene<L> {
 }
 
 impl<L: Link + Drop> Scene<L> {
-    /// A turn, with what the last pipe call gave, other than a new link: that is what `arrive` is for. It asks for a rest where
-    /// it is one, and where book and board don't fit the reactor.
+    /// A turn, with what the last pipe call gave, other than a new link: that is what `arrive` is for. It asks for a
+    /// rest where it is one, and where book and board don't fit the reactor.
     #[tactic(auto, using(crate::proofs::Apart::none_brought, crate::proofs::Apart::may_ready, crate::proofs::Apart::may_turn))]
     pub fn turn(&mut self, alloc: Global, got: Got<Msg<L, CaseTicket>>) -> Ask<Msg<L, CaseTicket>> {
         if !self.fits() || brings(&got) {
@@ -170,8 +170,8 @@ impl<L: Link + Drop> Scene<L> {
         self.reactor.turn(alloc, got, &mut self.book, &mut self.board, &mut self.ends)
     }
 
-    /// The settling of what the last pipe call gave, alone. Nothing is settled where it is a new link, or where book and board
-    /// don't fit the reactor.
+    /// The settling of what the last pipe call gave, alone. Nothing is settled where it is a new link, or where book
+    /// and board don't fit the reactor.
     #[tactic(auto, using(crate::proofs::Apart::none_brought, crate::proofs::Apart::may_ready, crate::proofs::Apart::may_turn))]
     pub fn settle(&mut self, alloc: Global, got: Got<Msg<L, CaseTicket>>) {
         if self.fits() && !brings(&got) {

@@ -36,8 +36,8 @@ impl<'a> Case<'a> {
     }
 }
 
-/// The cases that a text lists, in order. An empty line says nothing, nor does one that begins with `#`; what stands before the
-/// first case makes one without a name.
+/// The cases that a text lists, in order. An empty line says nothing, nor does one that begins with `#`; what stands
+/// before the first case makes one without a name.
 pub fn cases<'a>(alloc: Global, text: &'a str) -> Result<Vec<Case<'a>>, OutOfMemory> {
     let mut found = Vec::new(alloc);
     let mut case = Case::new(alloc, "");

@@ -1,4 +1,5 @@
-//! What the players of cases have in common: the list of cases as it is written, settings of a case, and events as texts, read.
+//! What the players of cases have in common: the list of cases as it is written, settings of a case, and events as
+//! texts, read.
 #![tactic(auto)]
 
 mod case;

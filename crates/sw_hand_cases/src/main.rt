@@ -1,6 +1,5 @@
-//! Plays the cases of worker and task worker that standard input lists, and prints for each what came out: single turns over ports
-//! whose answers the case gives.
-//! The head of the stored standard input says how a case is written.
+//! Plays the cases of worker and task worker that standard input lists, and prints for each what came out: single turns
+//! over ports whose answers the case gives. The head of the stored standard input says how a case is written.
 #![tactic(auto)]
 
 mod hand;

@@ -1,5 +1,6 @@
-//! Plays the cases of the Table that standard input lists, and prints for each what came out: calls on both of its forms, the plain
-//! one and the one that threads share. The head of the stored standard input says how a case is written.
+//! Plays the cases of the Table that standard input lists, and prints for each what came out: calls on both of its
+//! forms, the plain one and the one that threads share. The head of the stored standard input says how a case is
+//! written.
 #![tactic(auto)]
 
 mod holder;

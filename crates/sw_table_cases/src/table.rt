@@ -1,4 +1,5 @@
-//! Cases of the Table: calls in, and out of both forms, the plain one and the one that threads share, their places and replies.
+//! Cases of the Table: calls in, and out of both forms, the plain one and the one that threads share, their places and
+//! replies.
 ghost use Rattle.sw_table_cases.specs.Forms.{AreOpen, AreClosed};
 
 use crate::table_forms::{Closed, Forms};
@@ -134,8 +135,8 @@ fn has(case: &Case, word: &str) -> bool {
     false
 }
 
-/// Plays the case: `table SIZE PERCENT CALLS COLUMNS`, with the number of rows, the percent of the pool, and how many calls
-/// may have a place. The lines are calls.
+/// Plays the case: `table SIZE PERCENT CALLS COLUMNS`, with the number of rows, the percent of the pool, and how many
+/// calls may have a place. The lines are calls.
 pub fn put(alloc: Global, out: &mut String, case: &Case, words: &str) -> Result<(), OutOfMemory> {
     let words: Vec<&str> = words.split(" ").collect(alloc)?;
     let [size, percent, last_call, columns] = words.as_slice() else {
