@@ -1,6 +1,6 @@
 //! A reactor with its ports.
 ghost use Rattle.std.specs.Prelude.{◌≡◌, ◌<◌, ◌≤◌, [], ◌++◌, ◌∷◌, IsTrue, IfOk, length, false};
-ghost use Rattle.sw_reactor.specs.Ready.{AreApart, tickets, brought};
+ghost use Rattle.sw_reactor.specs.Ready.{AreApart, tickets, brought, brought_by};
 ghost use Rattle.sw_case_ports.specs.Book.{Holds, Differ};
 ghost use Rattle.sw_case_scene.specs.Scene.{IsFreeSlot};
 
@@ -34,16 +34,33 @@ impl<L> Model for Scene<L> {
     ghost invariant = { λ s. MayTurn s.reactor s.book };
 }
 
+/// Whether a message is a new link.
+fn is_fresh<L>(message: &Msg<L, CaseTicket>) -> bool
+    ensures { result ≡ false → brought_by message.now ≡ [] }
+{
+    match message {
+        Msg::Fresh(_, _, _) => true,
+        Msg::Send(_, _) => false,
+        Msg::Close(_) => false,
+        Msg::Reset(_) => false,
+        Msg::Bye(_) => false,
+        Msg::Event(_) => false,
+        Msg::Over(_) => false,
+        Msg::NoMore => false,
+    }
+}
+
 /// Whether a pipe call gave a new link.
 fn brings<L>(got: &Got<Msg<L, CaseTicket>>) -> bool
     ensures { result ≡ false → brought got.now ≡ [] }
 {
     match got {
-        Got::Took(message) => match message {
-            Msg::Fresh(_, _, _) => true,
-            _ => false,
-        },
-        _ => false,
+        Got::Start => false,
+        Got::Took(message) => is_fresh(message),
+        Got::Empty => false,
+        Got::Pushed => false,
+        Got::Full(_) => false,
+        Got::Nothing => false,
     }
 }
 
