@@ -50,33 +50,33 @@ long_some (x ∷ xs) h e = absurd (cc)
 -- a share of mail
 share_some : (x : ActorId) (ms : Mail) → ¬ (collect no_more (of x ms) ≡ []) → ¬ (collect no_more (bare ms) ≡ [])
 share_some x [] n = n
-share_some x (e ∷ ms) n = pick (is e.0 x) n
+share_some x (e ∷ ms) n = pick (is e.0 x) (λ k. share_some x ms k) n
   where
-    pick : (b : Bool) → ¬ (collect no_more (when b e.1 ++ of x ms) ≡ []) → ¬ (collect no_more (bare (e ∷ ms)) ≡ [])
-    pick true k z = elim (empty_or (no_more e.1)) [
-      | inl q ↦ share_some x ms (λ w. k (ap (λ (ys : List ℕ). ys ++ collect no_more (of x ms)) q ∙ w)) (append_none (no_more e.1) (collect no_more (bare ms)) z).1
+    pick : (b : Bool) → (¬ (collect no_more (of x ms) ≡ []) → ¬ (collect no_more (bare ms) ≡ [])) → ¬ (collect no_more (when b e.1 ++ of x ms) ≡ []) → ¬ (collect no_more (bare (e ∷ ms)) ≡ [])
+    pick true rest k z = elim (empty_or (no_more e.1)) [
+      | inl q ↦ rest (λ w. k (ap (λ (ys : List ℕ). ys ++ collect no_more (of x ms)) q ∙ w)) (append_none (no_more e.1) (collect no_more (bare ms)) z).1
       | inr q ↦ q (append_none (no_more e.1) (collect no_more (bare ms)) z).0
     ]
-    pick false k z = share_some x ms k (append_none (no_more e.1) (collect no_more (bare ms)) z).1
+    pick false rest k z = rest k (append_none (no_more e.1) (collect no_more (bare ms)) z).1
 
 share_none : (x : ActorId) (ms : Mail) → collect fresh_in (bare ms) ≡ [] → collect fresh_in (of x ms) ≡ []
 share_none x [] h = refl
-share_none x (e ∷ ms) h = pick (is e.0 x)
+share_none x (e ∷ ms) h = pick (is e.0 x) (share_none x ms both.1)
   where
     both : (fresh_in e.1 ≡ []) × (collect fresh_in (bare ms) ≡ [])
     both = append_none (fresh_in e.1) (collect fresh_in (bare ms)) h
 
-    pick : (b : Bool) → collect fresh_in (when b e.1 ++ of x ms) ≡ []
-    pick true = ap (λ (ys : List ℕ). ys ++ collect fresh_in (of x ms)) both.0 ∙ share_none x ms both.1
-    pick false = share_none x ms both.1
+    pick : (b : Bool) → collect fresh_in (of x ms) ≡ [] → collect fresh_in (when b e.1 ++ of x ms) ≡ []
+    pick true rest = ap (λ (ys : List ℕ). ys ++ collect fresh_in (of x ms)) both.0 ∙ rest
+    pick false rest = rest
 
 share_first : (x : ActorId) (ms : Mail) → ComeFirst (bare ms) → ComeFirst (of x ms)
 share_first x [] h = tt
-share_first x (e ∷ ms) h = pick (is e.0 x)
+share_first x (e ∷ ms) h = pick (is e.0 x) (share_first x ms h.1)
   where
-    pick : (b : Bool) → ComeFirst (when b e.1 ++ of x ms)
-    pick true = ((λ some. share_none x ms (h.0 some)), share_first x ms h.1)
-    pick false = share_first x ms h.1
+    pick : (b : Bool) → ComeFirst (of x ms) → ComeFirst (when b e.1 ++ of x ms)
+    pick true rest = ((λ some. share_none x ms (h.0 some)), rest)
+    pick false rest = rest
 
 -- what comes behind a NoMore is no link
 first_mid : (xs ys : List Message) (m : Message) → ComeFirst (xs ++ m ∷ ys) → ¬ (collect no_more xs ≡ []) → fresh_in m ≡ []
