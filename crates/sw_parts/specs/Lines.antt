@@ -1,6 +1,6 @@
 -- What the pipe call comes to that an actor asked for.
-use Rattle.std.specs.Prelude.{◌≡◌, ◌≤◌, ℕ, true, List, [], ◌∷◌, ◌++◌, length, slice_get, slice_set, Option, None, Some}
-use Rattle.std.specs.Option.{MatchOption}
+use Rattle.std.specs.Prelude.{◌≡◌, ◌≤◌, ℕ, true, List, [], ◌∷◌, ◌++◌, length, nat_lt, slice_get, slice_set, Option, None, Some}
+use Rattle.std.specs.Bool.{MatchBool}
 use Rattle.sw_data.specs.declared.messages.Ask.{Ask}
 use Rattle.sw_data.specs.declared.messages.Ask.TheVariants as asks
 use Rattle.sw_data.specs.declared.messages.Got.{Got}
@@ -29,10 +29,14 @@ TakeGives t gots.Pushed u = ⊥
 TakeGives t (gots.Full m) u = ⊥
 TakeGives t gots.Nothing u = ⊥
 
+-- a push by the sender at a place
+abbrev pub PushedAt : {M : Type 0} → List (Pushed M) → ℕ → M → Got M → List (Pushed M) → Type 0
+PushedAt {M} ss n m got ts =
+    (s : Pushed M) × ((t : Pushed M) × ((slice_get ss n ≡ Some s) × PushGives s m got t × (ts ≡ slice_set ss n t)))
+
 -- a push to the actor of a number comes back where there is none
 abbrev pub PushesAt : {M : Type 0} → List (Pushed M) → ℕ → M → Got M → List (Pushed M) → Type 0
-PushesAt {M} ss n m got ts =
-    MatchOption (slice_get ss n) ((got ≡ gots.Full m) × (ts ≡ ss)) (λ s. (t : Pushed M) × PushGives s m got t × (ts ≡ slice_set ss n t))
+PushesAt ss n m got ts = MatchBool (nat_lt n (length ss)) (PushedAt ss n m got ts) ((got ≡ gots.Full m) × (ts ≡ ss))
 
 -- a take of a pipe that isn't there finds nothing
 abbrev pub TakesOf : {M : Type 0} → Option (Took M) → Got M → Option (Took M) → Type 0

@@ -1,6 +1,6 @@
 //! An actor's ends of the pipes.
-ghost use Rattle.std.specs.Prelude.{◌≡◌};
-ghost use Rattle.sw_parts.specs.Lines.{PushGives, TakeGives, PushesAt, TakesOf, PushesTo, Calls};
+ghost use Rattle.std.specs.Prelude.{◌≡◌, ◌<◌, length};
+ghost use Rattle.sw_parts.specs.Lines.{PushGives, TakeGives, PushedAt, PushesAt, TakesOf, PushesTo, Calls};
 
 use std::sync::Wait;
 use sw_data::{Ask, Got, Target};
@@ -75,12 +75,22 @@ impl<M: Drop> Lines<M> {
     }
 }
 
+/// Pushes a message by the sender at a place.
+fn push_at<M: Drop, R: Wait>(rt: &R, senders: &mut Vec<Sender<M>>, at: usize, message: M) -> Got<M>
+    requires { at < length senders.old.items }
+    ensures { PushedAt senders.old.items at message result senders.new.items }
+{
+    let sender = &mut senders[at];
+    push_to(rt, sender, message)
+}
+
 /// Pushes a message to the actor of a number.
 fn push_among<M: Drop, R: Wait>(rt: &R, senders: &mut Vec<Sender<M>>, n: u32, message: M) -> Got<M>
     ensures { PushesAt senders.old.items n message result senders.new.items }
 {
-    match senders.get_mut(n as usize) {
-        Some(sender) => push_to(rt, sender, message),
-        None => Got::Full(message),
+    if (n as usize) < senders.len() {
+        push_at(rt, senders, n as usize, message)
+    } else {
+        Got::Full(message)
     }
 }
