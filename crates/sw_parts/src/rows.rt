@@ -5,8 +5,8 @@ use std::alloc::Global;
 use sw_base::OutOfMemory;
 use sw_pipe::{Pipe, Sender, Taker};
 
-/// So many pipes, each with so many senders: the takers by their numbers, and for each sender's number a row of its senders, one for each
-/// pipe.
+/// So many pipes, each with so many senders: the takers by their numbers, and for each sender's number a row of its senders,
+/// one for each pipe.
 pub(crate) fn mesh<M: Drop>(
     alloc: Global,
     capacity: u32,
@@ -29,10 +29,21 @@ pub(crate) fn mesh<M: Drop>(
     Ok((takers, rows))
 }
 
+/// One more at the end of a row, if it is there.
+fn add_at<T: Drop>(rows: &mut Vec<Vec<T>>, at: usize, one: T) -> Result<(), OutOfMemory> {
+    if at < rows.len() {
+        let row = &mut rows[at];
+        row.push(one)?;
+    }
+    Ok(())
+}
+
 /// Each row gets one more.
 fn deal<T: Drop>(rows: &mut Vec<Vec<T>>, column: Vec<T>) -> Result<(), OutOfMemory> {
-    for (row, one) in rows.iter_mut().zip(column) {
-        row.push(one)?;
+    let mut at: usize = 0;
+    for one in column {
+        add_at(rows, at, one)?;
+        at = at.saturating_add(1);
     }
     Ok(())
 }
