@@ -31,18 +31,33 @@ pub enum ServeFault<N, E, H, T> {
 }
 
 impl<N, E, H, T> From<OutOfMemory> for ServeFault<N, E, H, T> {
+    ghost use Rattle.std.specs.Prelude.{◌≡◌};
+    ghost use Rattle.sw_run.specs.declared.faults.ServeFault.TheVariants as faults;
+
+    ghost from_gives = { λ _ e. e ≡ faults.OutOfMemory };
+
     fn from(_wanted: OutOfMemory) -> ServeFault<N, E, H, T> {
         ServeFault::OutOfMemory
     }
 }
 
 impl<N, E, H, T> From<AllocError> for ServeFault<N, E, H, T> {
+    ghost use Rattle.std.specs.Prelude.{◌≡◌};
+    ghost use Rattle.sw_run.specs.declared.faults.ServeFault.TheVariants as faults;
+
+    ghost from_gives = { λ _ e. e ≡ faults.OutOfMemory };
+
     fn from(_wanted: AllocError) -> ServeFault<N, E, H, T> {
         ServeFault::OutOfMemory
     }
 }
 
 impl<N, E, H, T, X: Drop> From<AllocFailed<X>> for ServeFault<N, E, H, T> {
+    ghost use Rattle.std.specs.Prelude.{◌≡◌};
+    ghost use Rattle.sw_run.specs.declared.faults.ServeFault.TheVariants as faults;
+
+    ghost from_gives = { λ _ e. e ≡ faults.OutOfMemory };
+
     fn from(_wanted: AllocFailed<X>) -> ServeFault<N, E, H, T> {
         ServeFault::OutOfMemory
     }

@@ -31,6 +31,7 @@ use sw_sweep::{Stopped, finish};
 /// HandlerCount comes exactly for the first part of which not as many were given as the settings ask for; nothing is accepted
 /// then. ListenFault comes only where the net's count of faults rose, StartFault only where the spawner's did: then each link that an
 /// actor or a pipe still held went to the ends with the cause Stop. Want of memory loses what was given.
+#[tactic(auto, using(crate::proofs::Telling::counted_all))]
 pub fn run_server<
     N: Net + Drop + Send + 'static,
     E: Ends<N::Link> + Drop + Send + 'static,

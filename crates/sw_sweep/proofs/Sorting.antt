@@ -5,10 +5,12 @@ use Rattle.sw_players.specs.declared.actor.Actor.{Actor}
 use Rattle.sw_players.specs.declared.actor.Actor.TheVariants.{Door, Reactor, Worker, Tasker}
 use Rattle.sw_players.specs.declared.door.AtDoor.{AtDoor}
 use Rattle.sw_players.specs.declared.reactor.Reacting.{Reacting}
+use Rattle.sw_players.specs.declared.tasker.Tasking.{Tasking}
+use Rattle.sw_players.specs.declared.worker.Working.{Working}
 use Rattle.sw_players.specs.Turns.{IsDoor}
 use Rattle.sw_port_board.specs.declared.crew.Sizes.{Sizes}
 use Rattle.sw_sweep.specs.declared.crew.Crew.{Crew}
-use Rattle.sw_sweep.specs.Sorted.{doors_in, reactors_in, workers_in, taskers_in, IsAtReactor, More, Sorted}
+use Rattle.sw_sweep.specs.Sorted.{doors_in, reactors_in, workers_in, taskers_in, IsAtReactor, DoorMore, ReactorMore, WorkerMore, TaskerMore, More, Sorted}
 
 one : {X : Type 0} (P : X → Type 0) (x : X) → P x → All P (x ∷ [])
 one P x p zero d lt = p
@@ -104,3 +106,20 @@ module _ {N J E H T L : Type 0} where
     are_doors = subst (All (λ (q : AtDoor N J E L). IsDoor q.door)) (sym m.1) s.are_doors;
     are_reactors = subst (All (IsAtReactor words sizes)) (sym m.2) s.are_reactors;
   }
+
+  -- of the same players
+  pub sorted_all : (words : ℕ) (sizes : Sizes) (ps qs : List (Actor N J E H T L)) (c : Crew N J E H T L) → ps ≡ qs → Sorted words sizes ps c → Sorted words sizes qs c
+  sorted_all words sizes ps qs c same s = subst (λ l. Sorted words sizes l c) same s
+
+  -- the same one more
+  pub door_same : (p q : AtDoor N J E L) (c d : Crew N J E H T L) → q ≡ p → DoorMore q c d → DoorMore p c d
+  door_same p q c d same h = subst (λ z. DoorMore z c d) same h
+
+  pub reactor_same : (words : ℕ) (sizes : Sizes) (p q : Reacting L J E) (c d : Crew N J E H T L) → q ≡ p → ReactorMore words sizes q c d → ReactorMore words sizes p c d
+  reactor_same words sizes p q c d same h = subst (λ z. ReactorMore words sizes z c d) same h
+
+  pub worker_same : (p q : Working L J H) (c d : Crew N J E H T L) → q ≡ p → WorkerMore q c d → WorkerMore p c d
+  worker_same p q c d same h = subst (λ z. WorkerMore z c d) same h
+
+  pub tasker_same : (p q : Tasking L J T) (c d : Crew N J E H T L) → q ≡ p → TaskerMore q c d → TaskerMore p c d
+  tasker_same p q c d same h = subst (λ z. TaskerMore z c d) same h

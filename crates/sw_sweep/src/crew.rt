@@ -1,14 +1,17 @@
 //! The players that came back, by their kinds.
 ghost use Rattle.std.specs.Prelude.{◌≡◌, [], IfOk, OnOk};
-ghost use Rattle.sw_players.specs.Turns.{IsDoor, IsReactor};
+ghost use Rattle.sw_players.specs.Turns.{IsDoor};
 ghost use Rattle.sw_sessions.specs.Values.{slots};
-ghost use Rattle.sw_sweep.specs.Sorted.{DoorMore, ReactorMore, WorkerMore, TaskerMore, More, Sorted};
+ghost use Rattle.sw_sweep.specs.Sorted.{IsAtReactor, DoorMore, ReactorMore, WorkerMore, TaskerMore, More, Sorted};
 
 use std::alloc::Global;
 use sw_base::OutOfMemory;
 use sw_handler::Handler;
 use sw_link::{Ends, Net};
-use sw_players::{Actor, AtDoor, Reacting, Tasking, Working};
+use sw_players::{
+    Actor, AtDoor, DoorPlayer, Reacting, ReactorPlayer, TaskerPlayer, Tasking, WorkerPlayer,
+    Working,
+};
 use sw_shared::Naming;
 
 /// All that came back, by kinds, each in the order of its numbers.
@@ -45,7 +48,7 @@ where
         }
     }
 
-    fn add_door(&mut self, one: AtDoor<N, J, E>) -> Result<(), OutOfMemory>
+    fn push_door(&mut self, one: AtDoor<N, J, E>) -> Result<(), OutOfMemory>
         requires { IsDoor one.door }
         ensures { OnOk result (DoorMore one self.old self.new) }
     {
@@ -53,25 +56,61 @@ where
         Ok(())
     }
 
-    fn add_reactor(&mut self, one: Reacting<N::Link, J, E>) -> Result<(), OutOfMemory>
-        requires { IsReactor (λ t. t.number) (slots J.book) J.board.sizes one.reactor }
+    #[tactic(auto, using(crate::proofs::Sorting::door_same))]
+    fn add_door(&mut self, one: DoorPlayer<N, J, E>) -> Result<(), OutOfMemory>
+        ensures { OnOk result (DoorMore one self.old self.new) }
+    {
+        let inner = one.into_inner();
+        self.push_door(inner)?;
+        Ok(())
+    }
+
+    fn push_reactor(&mut self, one: Reacting<N::Link, J, E>) -> Result<(), OutOfMemory>
+        requires { IsAtReactor (slots J.book) J.board.sizes one }
         ensures { OnOk result (ReactorMore (slots J.book) J.board.sizes one self.old self.new) }
     {
         self.reactors.push(one)?;
         Ok(())
     }
 
-    fn add_worker(&mut self, one: Working<N::Link, J, H>) -> Result<(), OutOfMemory>
+    #[tactic(auto, using(crate::proofs::Sorting::reactor_same))]
+    fn add_reactor(&mut self, one: ReactorPlayer<N::Link, J, E>) -> Result<(), OutOfMemory>
+        ensures { OnOk result (ReactorMore (slots J.book) J.board.sizes one self.old self.new) }
+    {
+        let inner = one.into_inner();
+        self.push_reactor(inner)?;
+        Ok(())
+    }
+
+    fn push_worker(&mut self, one: Working<N::Link, J, H>) -> Result<(), OutOfMemory>
         ensures { OnOk result (WorkerMore one self.old self.new) }
     {
         self.workers.push(one)?;
         Ok(())
     }
 
-    fn add_tasker(&mut self, one: Tasking<N::Link, J, T>) -> Result<(), OutOfMemory>
+    #[tactic(auto, using(crate::proofs::Sorting::worker_same))]
+    fn add_worker(&mut self, one: WorkerPlayer<N::Link, J, H>) -> Result<(), OutOfMemory>
+        ensures { OnOk result (WorkerMore one self.old self.new) }
+    {
+        let inner = one.into_inner();
+        self.push_worker(inner)?;
+        Ok(())
+    }
+
+    fn push_tasker(&mut self, one: Tasking<N::Link, J, T>) -> Result<(), OutOfMemory>
         ensures { OnOk result (TaskerMore one self.old self.new) }
     {
         self.taskers.push(one)?;
+        Ok(())
+    }
+
+    #[tactic(auto, using(crate::proofs::Sorting::tasker_same))]
+    fn add_tasker(&mut self, one: TaskerPlayer<N::Link, J, T>) -> Result<(), OutOfMemory>
+        ensures { OnOk result (TaskerMore one self.old self.new) }
+    {
+        let inner = one.into_inner();
+        self.push_tasker(inner)?;
         Ok(())
     }
 
@@ -79,16 +118,16 @@ where
         ensures { OnOk result (More (slots J.book) J.board.sizes player self.old self.new) }
     {
         match player {
-            Actor::Door(one) => self.add_door(one.into_inner()),
-            Actor::Reactor(one) => self.add_reactor(one.into_inner()),
-            Actor::Worker(one) => self.add_worker(one.into_inner()),
-            Actor::Tasker(one) => self.add_tasker(one.into_inner()),
+            Actor::Door(one) => self.add_door(one),
+            Actor::Reactor(one) => self.add_reactor(one),
+            Actor::Worker(one) => self.add_worker(one),
+            Actor::Tasker(one) => self.add_tasker(one),
         }
     }
 }
 
 /// Sorts players by their kinds.
-#[tactic(auto, using(crate::proofs::Sorting::sorted_none, crate::proofs::Sorting::sorted_more))]
+#[tactic(auto, using(crate::proofs::Sorting::sorted_none, crate::proofs::Sorting::sorted_more, crate::proofs::Sorting::sorted_all))]
 pub fn sort<
     N: Net + Drop,
     J: Naming,
