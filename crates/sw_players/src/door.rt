@@ -40,15 +40,14 @@ where
     N::Link: Drop,
 {
     /// One turn of the door.
-    fn turn(&mut self) -> Ask<Msg<N::Link, NamedTicket<J>>>
+    fn turn(&mut self, got: Got<Msg<N::Link, NamedTicket<J>>>) -> Ask<Msg<N::Link, NamedTicket<J>>>
         requires { IsDoor self.old.door }
         ensures turns { Turns (ListensAs N.accept_gives) ClerkClaims (λ t. t.number) SeatGoes E.put_gives
-            self.old.door self.old.net self.old.clerk self.old.seat self.old.ends self.old.got
+            self.old.door self.old.net self.old.clerk self.old.seat self.old.ends got
             self.new.door self.new.net self.new.clerk self.new.seat self.new.ends result }
         ensures door { IsDoor self.new.door }
         ensures was { self.new.net.was ≡ self.old.net.was }
     {
-        let got = replace(&mut self.got, Got::Nothing);
         self.door.turn(
             got,
             &mut self.net,
@@ -65,7 +64,8 @@ where
         ensures was { self.new.net.was ≡ self.old.net.was }
         ensures over { self.new.over ≡ is_end result }
     {
-        let ask = self.turn();
+        let got = replace(&mut self.got, Got::Nothing);
+        let ask = self.turn(got);
         let went = went_of(&ask);
         let to = target_of(&ask);
         self.got = self.lines.call(rt, ask);

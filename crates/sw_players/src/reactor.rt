@@ -37,14 +37,13 @@ pub struct Reacting<L, J: Naming, E> {
 
 impl<L: Link + Drop, J: Naming, E: Ends<L>> Reacting<L, J, E> {
     /// One turn of the reactor.
-    fn turn(&mut self) -> Ask<Msg<L, NamedTicket<J>>>
+    fn turn(&mut self, got: Got<Msg<L, NamedTicket<J>>>) -> Ask<Msg<L, NamedTicket<J>>>
         requires { IsReactor (λ t. t.number) (slots J.book) J.board.sizes self.old.reactor }
         ensures turns { Turns (ports_of (λ t. t.number) L.read_gives L.write_gives pass_looks pass_releases SeatGoes (λ s. J.board.sizes) E.put_gives)
-            self.old.reactor self.old.got self.old.pass self.old.seat self.old.ends result
+            self.old.reactor got self.old.pass self.old.seat self.old.ends result
             self.new.reactor self.new.pass self.new.seat self.new.ends }
         ensures reactor { IsReactor (λ t. t.number) (slots J.book) J.board.sizes self.new.reactor }
     {
-        let got = replace(&mut self.got, Got::Nothing);
         self.reactor.turn(
             self.alloc,
             got,
@@ -60,7 +59,8 @@ impl<L: Link + Drop, J: Naming, E: Ends<L>> Reacting<L, J, E> {
         ensures reactor { IsReactor (λ t. t.number) (slots J.book) J.board.sizes self.new.reactor }
         ensures over { self.new.over ≡ is_end result }
     {
-        let ask = self.turn();
+        let got = replace(&mut self.got, Got::Nothing);
+        let ask = self.turn(got);
         let went = went_of(&ask);
         let to = target_of(&ask);
         self.got = self.lines.call(rt, ask);

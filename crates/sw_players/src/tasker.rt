@@ -38,15 +38,14 @@ pub struct Tasking<L, J: Naming, T> {
 impl<L: Drop, J: Naming, T: Handler> Tasking<L, J, T> {
     /// One turn of the task worker.
     #[tactic(auto, using(crate::proofs::Hands::stays))]
-    fn turn(&mut self) -> Ask<Msg<L, NamedTicket<J>>>
+    fn turn(&mut self, got: Got<Msg<L, NamedTicket<J>>>) -> Ask<Msg<L, NamedTicket<J>>>
         requires { IsAtHand J.board.sizes J.table.columns self.old.tasker }
         ensures turns { TurnsBy (rules_of pass_looks pass_binds (stand_gives J.table) T.acts SeatGoes (λ s. J.board.sizes))
-            self.old.tasker self.old.pass self.old.stand self.old.seat self.old.got
+            self.old.tasker self.old.pass self.old.stand self.old.seat got
             self.new.tasker self.new.pass self.new.stand self.new.seat result }
         ensures hand { IsAtHand J.board.sizes J.table.columns self.new.tasker }
         ensures made { T.made self.new.tasker.handler ≡ T.made self.old.tasker.handler }
     {
-        let got = replace(&mut self.got, Got::Nothing);
         self.tasker.turn(
             self.alloc,
             got,
@@ -63,7 +62,8 @@ impl<L: Drop, J: Naming, T: Handler> Tasking<L, J, T> {
         ensures over { self.new.over ≡ is_end result }
         ensures made { T.made self.new.tasker.handler ≡ T.made self.old.tasker.handler }
     {
-        let ask = self.turn();
+        let got = replace(&mut self.got, Got::Nothing);
+        let ask = self.turn(got);
         let went = went_of(&ask);
         let to = target_of(&ask);
         self.got = self.lines.call(rt, ask);

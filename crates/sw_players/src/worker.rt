@@ -40,15 +40,14 @@ pub struct Working<L, J: Naming, H> {
 impl<L: Drop, J: Naming, H: Handler> Working<L, J, H> {
     /// One turn of the worker.
     #[tactic(auto, using(crate::proofs::Hands::stays))]
-    fn turn(&mut self) -> Ask<Msg<L, NamedTicket<J>>>
+    fn turn(&mut self, got: Got<Msg<L, NamedTicket<J>>>) -> Ask<Msg<L, NamedTicket<J>>>
         requires { IsAtHand J.board.sizes J.table.columns self.old.worker }
         ensures turns { WorkerTurns (rules_of pass_looks pass_binds (stand_gives J.table) H.acts SeatGoes (λ s. J.board.sizes))
-            self.old.worker self.old.pass self.old.stand self.old.seat self.old.got
+            self.old.worker self.old.pass self.old.stand self.old.seat got
             self.new.worker self.new.pass self.new.stand self.new.seat result }
         ensures hand { IsAtHand J.board.sizes J.table.columns self.new.worker }
         ensures made { made H.made self.new.worker.handler ≡ made H.made self.old.worker.handler }
     {
-        let got = replace(&mut self.got, Got::Nothing);
         self.worker.turn(
             self.alloc,
             got,
@@ -65,7 +64,8 @@ impl<L: Drop, J: Naming, H: Handler> Working<L, J, H> {
         ensures over { self.new.over ≡ is_end result }
         ensures made { made H.made self.new.worker.handler ≡ made H.made self.old.worker.handler }
     {
-        let ask = self.turn();
+        let got = replace(&mut self.got, Got::Nothing);
+        let ask = self.turn(got);
         let went = went_of(&ask);
         let to = target_of(&ask);
         self.got = self.lines.call(rt, ask);
