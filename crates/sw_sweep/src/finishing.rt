@@ -11,7 +11,7 @@ use crate::hands::{end_taskers, end_workers};
 use crate::reactors::end_reactors;
 use crate::shares::Shares;
 use crate::stopped::Stopped;
-use crate::sweeping::sweep_door;
+use crate::sweeping::drop_got;
 use std::alloc::Global;
 use std::sync::Wait;
 use sw_base::OutOfMemory;
@@ -42,16 +42,16 @@ where
     requires { IsDoor door.door }
     ensures { Hears (N.faults door.net.was) (N.faults result.net) result.failed }
 {
-    let mut door = door;
-    let lost = door.door.lost();
-    let swept = sweep_door(&mut door);
     let AtDoor {
+        door,
         net,
         clerk,
         seat,
-        ends,
+        mut ends,
+        got,
         ..
     } = door;
+    let swept = drop_got(got, door.max_conn, &mut ends);
     let (net, failed) = net.into_net();
     DoorLeft {
         net,
@@ -59,7 +59,7 @@ where
         clerk,
         seat,
         ends,
-        whole: swept && !lost,
+        whole: swept && !door.lost(),
     }
 }
 

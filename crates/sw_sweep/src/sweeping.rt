@@ -7,9 +7,9 @@ ghost use Rattle.sw_sweep.specs.Stopped.{unheard};
 use std::mem::replace;
 use std::sync::Wait;
 use sw_data::{Cause, Ended, Got, Msg};
-use sw_link::{Ends, Link, Net};
+use sw_link::{Ends, Link};
 use sw_pipe::Taker;
-use sw_players::{AtDoor, Reacting};
+use sw_players::Reacting;
 use sw_port_book::Ticketed;
 use sw_shared::Naming;
 
@@ -47,8 +47,8 @@ fn drop_message<L: Drop, K: Ticketed + Drop, E: Ends<L>>(
     }
 }
 
-/// Ends the link of a message that came or came back.
-fn drop_got<L: Drop, K: Ticketed + Drop, E: Ends<L>>(
+/// Ends the link of a message that came or came back, if it has one. Answers whether memory was there.
+pub fn drop_got<L: Drop, K: Ticketed + Drop, E: Ends<L>>(
     got: Got<Msg<L, K>>,
     max_conn: u32,
     ends: &mut E,
@@ -127,15 +127,4 @@ pub fn sweep_reactor<L: Link + Drop, J: Naming, E: Ends<L>, R: Wait>(
     one.reactor.settle(one.alloc, got, &mut one.pass);
     let conns = drop_conns(rt, one);
     drop_messages(rt, &mut one.lines.taker, max_conn, &mut one.ends) && conns
-}
-
-/// Ends the link that the door was to push.
-pub fn sweep_door<N: Net, J: Naming, E: Ends<N::Link>>(one: &mut AtDoor<N, J, E>) -> bool
-where
-    N::Link: Drop,
-    requires { 0 < one.old.door.max_conn }
-    ensures { one.new.net ≡ one.old.net }
-{
-    let got = replace(&mut one.got, Got::Nothing);
-    drop_got(got, one.door.max_conn, &mut one.ends)
 }
