@@ -1,7 +1,7 @@
 //! What `serve` reads: settings on the first line, and rules on the others.
 ghost use Rattle.std.specs.Option.{option_copied};
 ghost use Rattle.sw_settings_json.specs.Json.{json_settings};
-ghost use Rattle.sw_serve.specs.Inputs.{rules_in, rules_behind, Reads, IsInputOf, SetsBy};
+ghost use Rattle.sw_serve.specs.Inputs.{rules_in, rules_behind, Reads, IsRead, IsInputOf, SetsBy};
 
 use std::alloc::Global;
 use sw_script::{Script, ScriptFault, read};
@@ -64,12 +64,20 @@ fn settings(alloc: Global, text: &[u8]) -> Result<Settings, InputRefusal>
     }
 }
 
+/// Reads the settings' line and what stands behind it.
+fn read_parts(alloc: Global, first: &[u8], rest: Option<&[u8]>) -> Result<Input, InputRefusal>
+    ensures { IsRead (first.now, option_copied rest) result }
+{
+    let script = rules_behind(alloc, rest)?;
+    let settings = settings(alloc, first)?;
+    Ok(Input { settings, script })
+}
+
 /// Reads a whole input. A line that is no rule is told before the settings' fault.
+#[tactic(auto, using(crate::proofs::Reading::same_parts))]
 pub fn read_input(alloc: Global, text: &[u8]) -> Result<Input, InputRefusal>
     ensures { IsInputOf text.now result }
 {
     let (first, rest) = cut(text, 10);
-    let script = rules_behind(alloc, rest)?;
-    let settings = settings(alloc, first)?;
-    Ok(Input { settings, script })
+    read_parts(alloc, first, rest)
 }
