@@ -1,6 +1,6 @@
 -- Changes of the code's links are changes of those that the ports gave and of those that wait.
 use Rattle.std.specs.Bool.{MatchBool}
-use Rattle.std.proofs.Common.{◌≡◌, ℕ, suc, ◌+◌, ◌%◌, Bool, true, false, List, [], ◌∷◌, ◌++◌, length, map, refl, ap, ◌∙◌, sym, subst, append_assoc, Option, Some, None, slice_get, slice_set, slice_index_or}
+use Rattle.std.proofs.Common.{◌≡◌, ℕ, suc, ◌+◌, ◌%◌, Bool, true, false, List, [], ◌∷◌, ◌++◌, length, map, refl, ap, ◌∙◌, sym, subst, append_assoc, Option, Some, None, slice_get, slice_index_or}
 use Rattle.std.proofs.lemmas.List.{length-set, map-append, length-replicate}
 use Rattle.sw_lists.proofs.Lists.{length_append}
 use Rattle.sw_record.specs.Terms.{Terms}
@@ -10,7 +10,7 @@ use Rattle.sw_world_places.specs.Arrived.{Known, come}
 use Rattle.sw_world_places.specs.Links.{Arrivals, no_arrivals, with_come, at_link, kept, slots_by, accepted_by, accepted, ahead_of, emptied, TakesAhead, has_session}
 use Rattle.sw_world_places.specs.declared.arrived.Claimed.{Claimed}
 use Rattle.sw_world_places.specs.declared.arrived.Claimed.TheVariants as claims
-use Rattle.sw_world_stands.specs.Links.{claim_of, claims_of, entry, done, wait, LinksStand}
+use Rattle.sw_world_stands.specs.Links.{claim_of, entry, done, wait, LinksStand}
 use Rattle.sw_world_stands.proofs.Gets.{map_same, map_behind, behind_get}
 
 -- before any link
@@ -22,10 +22,10 @@ pub comes_stand : (t : Terms) (a : Arrivals) (ip : ℕ) (given : List (ℕ × Cl
 comes_stand t a ip given waiting h =
     record {
       entries =
-        map-append entry a.all (come ip ∷ [])
-        ∙ ap (λ (l : List (ℕ × Option Claim)). l ++ wait ip ∷ []) h.entries
-        ∙ append_assoc (map done given) (map wait waiting) (wait ip ∷ [])
-        ∙ ap (λ (l : List (ℕ × Option Claim)). map done given ++ l) (sym (map-append wait waiting (ip ∷ [])));
+          map-append entry a.all (come ip ∷ [])
+          ∙ ap (λ (l : List (ℕ × Option Claim)). l ++ wait ip ∷ []) h.entries
+          ∙ append_assoc (map done given) (map wait waiting) (wait ip ∷ [])
+          ∙ ap (λ (l : List (ℕ × Option Claim)). map done given ++ l) (sym (map-append wait waiting (ip ∷ [])));
       accepted = h.accepted;
       slots = h.slots;
     }
@@ -68,10 +68,10 @@ accepts_stand t a c ip rest given h =
     subst (λ (o : Option Known). LinksStand t (accepted_by o c a) (given ++ (ip, claim_of c) ∷ []) rest) (sym l.1.0)
     (record {
       entries =
-        map_behind entry a.all a.accepted (record l.0 { claim = Some c }) (map done given) (map wait rest) (wait ip) h.entries at
-        ∙ ap (λ (n : ℕ). map done given ++ (n, Some (claim_of c)) ∷ map wait rest) (ap (λ (x : ℕ × Option Claim). x.0) l.1.1)
-        ∙ sym (append_assoc (map done given) ((ip, Some (claim_of c)) ∷ []) (map wait rest))
-        ∙ ap (λ (x : List (ℕ × Option Claim)). x ++ map wait rest) (sym (map-append done given ((ip, claim_of c) ∷ [])));
+          map_behind entry a.all a.accepted (record l.0 { claim = Some c }) (map done given) (map wait rest) (wait ip) h.entries at
+          ∙ ap (λ (n : ℕ). map done given ++ (n, Some (claim_of c)) ∷ map wait rest) (ap (λ (x : ℕ × Option Claim). x.0) l.1.1)
+          ∙ sym (append_assoc (map done given) ((ip, Some (claim_of c)) ∷ []) (map wait rest))
+          ∙ ap (λ (x : List (ℕ × Option Claim)). x ++ map wait rest) (sym (map-append done given ((ip, claim_of c) ∷ [])));
       accepted = ap (λ (n : ℕ). n + 1) h.accepted ∙ sym (length_append given ((ip, claim_of c) ∷ []));
       slots = size c a.accepted a.slots ∙ h.slots;
     })

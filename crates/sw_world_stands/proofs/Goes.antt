@@ -1,9 +1,7 @@
 -- The next of an actor: its pipe call is the world's, or a turn is due.
-use Rattle.std.proofs.Common.{◌≡◌, ℕ, ◌+◌, ◌<◌, nat_lt, Bool, true, false, if◌then◌else◌, List, [], ◌∷◌, ◌++◌, ◌⊎◌, inl, inr, length, map, refl, ap, ◌∙◌, sym, subst, zero-add, arith, Option, Some, None}
-use Rattle.std.proofs.lemmas.Bool.Decides.{nat_tests}
+use Rattle.std.proofs.Common.{◌≡◌, ℕ, nat_lt, Bool, true, false, if◌then◌else◌, List, [], ◌∷◌, ◌++◌, length, map, refl, ap, ◌∙◌, sym, subst, zero-add, Option, Some, None}
 use Rattle.std.proofs.lemmas.List.{length-map, map-append}
 use Rattle.sw_step.specs.declared.actor.ActorId.{ActorId}
-use Rattle.sw_step.specs.declared.actor.ActorId.TheVariants.{Door, Reactor, Worker, Tasker}
 use Rattle.sw_data.specs.declared.messages.Ask.TheVariants as asks
 use Rattle.sw_data.specs.declared.messages.Got.TheVariants as gots
 use Rattle.sw_data.specs.declared.messages.Target.{Target}
@@ -14,7 +12,6 @@ use Rattle.sw_past.specs.Messages.{Message}
 use Rattle.sw_world_ports.specs.Ports.{set_at}
 use Rattle.sw_world_laws.specs.Turns.{Got, AskTake, AskPush, AskNothing, AskRest, AskFinished}
 use Rattle.sw_world_laws.specs.Actors.{Actors}
-use Rattle.sw_lists.specs.Lists.{Each}
 use Rattle.sw_world_laws.specs.World.{Pending, Waits, Gave, Lost, Core, Outcome, there, piped, has_room, took_of, left_of, push_got, push_left, goes, turned, MayGo, IsTurn}
 use Rattle.sw_world_fits.specs.Board.{number_of}
 use Rattle.sw_world_places.specs.Pipes.{Pipe, Sent, Asking, Getting, taken, left, pushed, with_pushed}
@@ -24,7 +21,7 @@ use Rattle.sw_world_places.specs.declared.place.Next.{Next}
 use Rattle.sw_world_places.specs.declared.place.Next.TheVariants as nexts
 use Rattle.sw_world_places.specs.declared.place.Place.{Place}
 use Rattle.sw_world_stands.specs.Asked.{bare_of, ask_of, got_of, next_of}
-use Rattle.sw_world_stands.specs.New.{CarriesNew, NoLink, OfDoor, GotNew, AskNew, NextNew}
+use Rattle.sw_world_stands.specs.New.{CarriesNew, OfDoor, GotNew, AskNew, NextNew}
 use Rattle.sw_world_stands.specs.Rows.{PlaceStands, RowsStand, LinksByDoor, IsDue, WentBy, Went}
 use Rattle.sw_world_stands.proofs.Gets.{some_same}
 use Rattle.sw_world_stands.proofs.New.{each_behind, carries, left_new, taken_new, left_links}
@@ -89,8 +86,8 @@ with_room t r s nexts pipes x m got here h at true e fresh =
     record {
       answer = ap got_of (at.1.1.1.0 ∙ (room_yes at.0.inbox m (room_is t x at.0 (nexts x) (pipes x) old ∙ e)).0);
       left = rows_ext t s (set_at nexts x (nexts x)) nexts (set_at pipes x (pipes x ++ bare_of m ∷ [])) (set_at pipes x (pipes x ++ bare_of m ∷ []))
-        (changed t r s nexts pipes x (Push m got) (nexts x) (pipes x ++ bare_of m ∷ []) here h at (λ c d p st. more c d p st))
-        (set_same nexts x (nexts x) refl) (λ z. refl);
+          (changed t r s nexts pipes x (Push m got) (nexts x) (pipes x ++ bare_of m ∷ []) here h at (λ c d p st. more c d p st))
+          (set_same nexts x (nexts x) refl) (λ z. refl);
       new = λ z o. subst (GotNew z) (sym (at.1.1.1.0 ∙ (room_yes at.0.inbox m (room_is t x at.0 (nexts x) (pipes x) old ∙ e)).0)) tt;
     }
   where
@@ -106,8 +103,8 @@ with_room t r s nexts pipes x m got here h at false e fresh =
     record {
       answer = ap got_of (at.1.1.1.0 ∙ (room_no at.0.inbox m (room_is t x at.0 (nexts x) (pipes x) old ∙ e)).0);
       left = rows_ext t s (set_at nexts x (nexts x)) nexts (set_at pipes x (pipes x)) pipes
-        (changed t r s nexts pipes x (Push m got) (nexts x) (pipes x) here h at (λ c d p st. more c d p st))
-        (set_same nexts x (nexts x) refl) (set_same pipes x (pipes x) refl);
+          (changed t r s nexts pipes x (Push m got) (nexts x) (pipes x) here h at (λ c d p st. more c d p st))
+          (set_same nexts x (nexts x) refl) (set_same pipes x (pipes x) refl);
       new = λ z o. subst (GotNew z) (sym (at.1.1.1.0 ∙ (room_no at.0.inbox m (room_is t x at.0 (nexts x) (pipes x) old ∙ e)).0)) o;
     }
   where
@@ -141,12 +138,15 @@ module _ (t : Terms) (legal : List Ran → Type 0) (p : Actors t) (c : Core p.St
       LinksByDoor t c y → AskNew y ask → (ask ≡ asks.Finished → n ≡ Waits AskFinished) → Waits (ask_of ask) ≡ c.nexts y → Calls r (number_of t y) ask due s → WentBy t legal p c y due s (Waits (ask_of ask))
   called r s n asks.Take due here h by new f e k =
       subst (λ (d : Option Getting). WentBy t legal p c y d s (Waits AskTake)) (sym k.0)
-      (λ o. (tt, (
-        rows_ext t s (set_at (set_at c.nexts y n) y (Gave (took_of (c.pipes y)))) (set_at c.nexts y (Gave (took_of (c.pipes y)))) (set_at c.pipes y (left_of (c.pipes y))) (set_at c.pipes y (left_of (c.pipes y)))
-          (changed t r s (set_at c.nexts y n) c.pipes y (λ a b. b ≡ record { next = nexts.Gave (taken a.inbox.waiting); inbox = record a.inbox { waiting = left a.inbox.waiting } }) (Gave (took_of (c.pipes y))) (left_of (c.pipes y)) here h k.1 (λ a b e st. takes a b e (set_at c.nexts y n y) st))
-          (set_twice c.nexts y n (Gave (took_of (c.pipes y)))) (λ z. refl),
-        record { states = refl; ports = refl; feed = refl; lost = refl },
-      )))
+      (λ o. (
+        tt,
+        (
+          rows_ext t s (set_at (set_at c.nexts y n) y (Gave (took_of (c.pipes y)))) (set_at c.nexts y (Gave (took_of (c.pipes y)))) (set_at c.pipes y (left_of (c.pipes y))) (set_at c.pipes y (left_of (c.pipes y)))
+              (changed t r s (set_at c.nexts y n) c.pipes y (λ a b. b ≡ record { next = nexts.Gave (taken a.inbox.waiting); inbox = record a.inbox { waiting = left a.inbox.waiting } }) (Gave (took_of (c.pipes y))) (left_of (c.pipes y)) here h k.1 (λ a b e st. takes a b e (set_at c.nexts y n y) st))
+              (set_twice c.nexts y n (Gave (took_of (c.pipes y)))) (λ z. refl),
+          record { states = refl; ports = refl; feed = refl; lost = refl },
+        ),
+      ))
     where
       takes : (a b : Place) → b ≡ record { next = nexts.Gave (taken a.inbox.waiting); inbox = record a.inbox { waiting = left a.inbox.waiting } } → (w : Pending) → PlaceStands t y a w (c.pipes y) → PlaceStands t y b (Gave (took_of (c.pipes y))) (left_of (c.pipes y))
       takes a b e w st =
@@ -163,14 +163,17 @@ module _ (t : Terms) (legal : List Ran → Type 0) (p : Actors t) (c : Core p.St
       let w = pushes t r k.1.1.0 (set_at c.nexts y n) c.pipes to m got h (λ room. carries y m new (by (actor_of to) (bare_of m) e room)) k.1.1.1.0 in
       let b : Bool = has_room t (actor_of to) (c.pipes (actor_of to)) in
       let mid : RowsStand t s (set_at (set_at c.nexts y n) y (Gave (got_of got))) (if b then set_at c.pipes (actor_of to) (c.pipes (actor_of to) ++ bare_of m ∷ []) else c.pipes) =
-          next_changed t k.1.1.0 s (set_at c.nexts y n) (if b then set_at c.pipes (actor_of to) (c.pipes (actor_of to) ++ bare_of m ∷ []) else c.pipes) y (λ a d. d ≡ record a { next = nexts.Gave got }) (nexts.Gave got) here w.left k.1.1.1.1 (λ a d e. e) (w.new y new) in
+      next_changed t k.1.1.0 s (set_at c.nexts y n) (if b then set_at c.pipes (actor_of to) (c.pipes (actor_of to) ++ bare_of m ∷ []) else c.pipes) y (λ a d. d ≡ record a { next = nexts.Gave got }) (nexts.Gave got) here w.left k.1.1.1.1 (λ a d e. e) (w.new y new) in
       subst (λ (d : Option Getting). WentBy t legal p c y d s (Waits (AskPush (actor_of to) (bare_of m)))) (sym k.0)
-      (λ o. (tt, (
-        rows_ext t s (set_at (set_at c.nexts y n) y (Gave (got_of got))) (set_at c.nexts y (Gave (push_got b (bare_of m)))) (if b then set_at c.pipes (actor_of to) (c.pipes (actor_of to) ++ bare_of m ∷ []) else c.pipes) (push_left c (actor_of to) (bare_of m) b) mid
-          (λ z. set_twice c.nexts y n (Gave (got_of got)) z ∙ ap (λ (g : Got). set_at c.nexts y (Gave g) z) w.answer)
-          (left_by c (actor_of to) (bare_of m) b),
-        record { states = refl; ports = refl; feed = refl; lost = refl },
-      )))
+      (λ o. (
+        tt,
+        (
+          rows_ext t s (set_at (set_at c.nexts y n) y (Gave (got_of got))) (set_at c.nexts y (Gave (push_got b (bare_of m)))) (if b then set_at c.pipes (actor_of to) (c.pipes (actor_of to) ++ bare_of m ∷ []) else c.pipes) (push_left c (actor_of to) (bare_of m) b) mid
+              (λ z. set_twice c.nexts y n (Gave (got_of got)) z ∙ ap (λ (g : Got). set_at c.nexts y (Gave g) z) w.answer)
+              (left_by c (actor_of to) (bare_of m) b),
+          record { states = refl; ports = refl; feed = refl; lost = refl },
+        ),
+      ))
   called r s n asks.Finished due here h by new f e k =
       subst (λ (d : Option Getting). WentBy t legal p c y d s (Waits AskFinished)) (sym k.0)
       (λ o. (tt, (subst (λ (w : Rows). RowsStand t w c.nexts c.pipes) (sym k.1) (rows_ext t r (set_at c.nexts y n) c.nexts c.pipes c.pipes h (set_same c.nexts y n (sym e ∙ sym (f refl))) (λ z. refl)), record { states = refl; ports = refl; feed = refl; lost = refl })))
@@ -190,8 +193,8 @@ module _ (t : Terms) (legal : List Ran → Type 0) (p : Actors t) (c : Core p.St
       let same : k.0 ≡ at.0 = some_same k.0 at.0 (sym k.1.0 ∙ at.1.1.0) in
       let is : next_of g.0 ≡ c.nexts y = ap next_of (at.1.1.1.0 ∙ ap (λ (q : Place). q.next) (sym same)) ∙ k.1.1.next in
       let mid : RowsStand t g.1.0 (set_at c.nexts y (next_of (next_left g.0))) c.pipes =
-          next_changed t r g.1.0 c.nexts c.pipes y (λ a d. (g.0 ≡ a.next) × (d ≡ record a { next = next_left a.next })) (next_left g.0) here h at
-          (λ a d e. e.1 ∙ ap (λ (x : Next). record a { next = next_left x }) (sym e.0)) (left_new y g.0) in
+      next_changed t r g.1.0 c.nexts c.pipes y (λ a d. (g.0 ≡ a.next) × (d ≡ record a { next = next_left a.next })) (next_left g.0) here h at
+      (λ a d e. e.1 ∙ ap (λ (x : Next). record a { next = next_left x }) (sym e.0)) (left_new y g.0) in
       let new : NextNew y g.0 = subst (NextNew y) (ap (λ (q : Place). q.next) same ∙ sym at.1.1.1.0) k.1.1.new in
       subst (WentBy t legal p c y due s) is (by_next g.1.0 s g.0 due here by new mid is g.1.1.1)
 

@@ -1,5 +1,5 @@
 -- Links on their way stay new.
-use Rattle.std.proofs.Common.{◌≡◌, ◌⊎◌, List, [], ◌∷◌, ◌++◌, sym, subst, inl, inr}
+use Rattle.std.proofs.Common.{◌≡◌, ◌⊎◌, List, [], ◌∷◌, ◌++◌, subst, inl, inr}
 use Rattle.sw_lists.specs.Lists.{Each}
 use Rattle.sw_step.specs.declared.actor.ActorId.{ActorId}
 use Rattle.sw_step.specs.declared.actor.ActorId.TheVariants.{Door}

@@ -1,5 +1,5 @@
 -- Places before any step, and behind a turn.
-use Rattle.std.proofs.Common.{◌≡◌, ℕ, zero, suc, ◌+◌, ◌<◌, Bool, true, false, if◌then◌else◌, List, [], ◌∷◌, refl, ap, ◌∙◌, sym, subst, arith, Some, slice_get, replicate}
+use Rattle.std.proofs.Common.{◌≡◌, ℕ, zero, suc, ◌+◌, ◌<◌, Bool, true, false, if◌then◌else◌, List, [], refl, ap, ◌∙◌, arith, Some, slice_get, replicate}
 use Rattle.sw_step.specs.declared.actor.ActorId.{ActorId}
 use Rattle.sw_step.specs.declared.actor.ActorId.TheVariants.{Door, Reactor, Worker, Tasker}
 use Rattle.sw_past.specs.Messages.{Message}
@@ -8,12 +8,11 @@ use Rattle.sw_record.specs.Places.{Ran}
 use Rattle.sw_world_ports.specs.Ports.{set_at}
 use Rattle.sw_world_laws.specs.Turns.{Got, GotStart}
 use Rattle.sw_world_laws.specs.Actors.{Actors}
-use Rattle.sw_world_laws.specs.World.{Pending, Waits, Gave, Core, Outcome, Goes, there, goes_if, turned, next, MayStep, MayGo, IsTurn}
+use Rattle.sw_world_laws.specs.World.{Pending, Waits, Gave, Core, Outcome, Goes, there, goes_if, turned, next, MayStep, IsTurn}
 use Rattle.sw_world_fits.specs.Board.{number_of, IsThere}
 use Rattle.sw_world_places.specs.Pipes.{Asking}
 use Rattle.sw_world_places.specs.Place.{fresh}
 use Rattle.sw_world_places.specs.Places.{Rows, new_rows, AtRow}
-use Rattle.sw_world_places.specs.declared.place.Place.{Place}
 use Rattle.sw_world_places.specs.declared.place.Next.TheVariants.{Asked}
 use Rattle.sw_world_stands.specs.Asked.{ask_of, next_of}
 use Rattle.sw_world_stands.specs.New.{AskNew}
@@ -53,8 +52,7 @@ asked_stand t r s nexts pipes y n ask here new h at =
 -- a turn that is due is a step
 pub due_steps : (t : Terms) (legal : List Ran → Type 0) (p : Actors t) (c : Core p.State) (y : ActorId) (o : Outcome p.State) (got : Got) →
     there t y ≡ true → c.lost ≡ false → IsDue (c.nexts y) got → IsTurn t legal p c y o got → MayStep t legal p c (Goes y o) × (next t p c (Goes y o) ≡ turned t p c y o)
-due_steps t legal p c y o got here sound due turn =
-    (
-      λ e f. due_may t legal p c y o (c.nexts y) got due turn,
-      ap (λ (b : Bool). if b then c else goes_if t p c y o (there t y)) sound ∙ ap (goes_if t p c y o) here ∙ due_goes t legal p c y o (c.nexts y) got due,
-    )
+due_steps t legal p c y o got here sound due turn = (
+  λ e f. due_may t legal p c y o (c.nexts y) got due turn,
+  ap (λ (b : Bool). if b then c else goes_if t p c y o (there t y)) sound ∙ ap (goes_if t p c y o) here ∙ due_goes t legal p c y o (c.nexts y) got due,
+)

@@ -1,5 +1,5 @@
 -- What the code's actors ask of the pipes and get from them, as the world has it.
-use Rattle.std.specs.Prelude.{ℕ, List, map}
+use Rattle.std.specs.Prelude.{ℕ}
 use Rattle.sw_data.specs.declared.messages.Ask.TheVariants as asks
 use Rattle.sw_data.specs.declared.messages.Got.TheVariants as gots
 use Rattle.sw_past.specs.Messages.{Message, message_of}

@@ -9,5 +9,6 @@ pub use links::{
     accepted_links_stand, arrivals_stand, kept_steps_stand, no_links_stand, taken_steps_stand,
 };
 pub use pipes::{
-    asked_calls_stand, due_turns_are_steps, links_come_from_the_door, new_places_stand, next_calls_stand,
+    asked_calls_stand, due_turns_are_steps, links_come_from_the_door, new_places_stand,
+    next_calls_stand,
 };
