@@ -183,8 +183,8 @@ module _ (t : Terms) (shape : Shape) (p : Ports) (d e : Door) (s : DoorState) (n
       let k = claim_fits t b p st.book some TheDoor ip in
       let answer : (claimed t p).0 ≡ answer_of r = k.0 ∙ ap answer_of (sym claiming.0) in
       let book : BookStands t c (ported t p TheDoor (Accepts ip (answer_of r))) =
-          subst (λ (w : Words). BookStands t w (ported t p TheDoor (Accepts ip (answer_of r)))) (sym claiming.1)
-          (subst (λ (a : Result ℕ ClaimFault). BookStands t (plain_claim b).words (ported t p TheDoor (Accepts ip (answer_of a)))) (sym claiming.0) k.1) in
+      subst (λ (w : Words). BookStands t w (ported t p TheDoor (Accepts ip (answer_of r)))) (sym claiming.1)
+      (subst (λ (a : Result ℕ ClaimFault). BookStands t (plain_claim b).words (ported t p TheDoor (Accepts ip (answer_of a)))) (sym claiming.0) k.1) in
       claimed_fit link ip is.0 mid is.1 net counts r answer book h
   accepted_fit accepts.NotYet is net h =
       carry t shape p s m e (record d { accepts = false }) c b q o g None ask asks.Rest h.0 h.2 h.3 h.4 h.1

@@ -67,7 +67,7 @@ module _ (t : Terms) (legal : List Ran → Type 0) (p : Actors t) (c : Core p.St
       let x : ActorId = Reactor (reactor_of t s) in
       let j = joint t legal p c h l in
       let mine : collect (story_in s) (of x (h.took (Worker k))) ≡ collect (story_in s) (bare (h.took (Worker k))) =
-          one_sender (story_in s) x (h.took (Worker k)) (each_more (λ (e : ActorId × Message). MayPush t e.0 (Worker k) e.1) (λ (e : ActorId × Message). (story_in s e.1 ≡ []) ⊎ (e.0 ≡ x)) (h.took (Worker k)) (λ e r. story_sender t s e.0 (Worker k) e.1 r) (took_all t (AimOf t) (EndOf t) (past_of t p c h) (locals t legal p c h l) j (Worker k))) in
+      one_sender (story_in s) x (h.took (Worker k)) (each_more (λ (e : ActorId × Message). MayPush t e.0 (Worker k) e.1) (λ (e : ActorId × Message). (story_in s e.1 ≡ []) ⊎ (e.0 ≡ x)) (h.took (Worker k)) (λ e r. story_sender t s e.0 (Worker k) e.1 r) (took_all t (AimOf t) (EndOf t) (past_of t p c h) (locals t legal p c h l) j (Worker k))) in
       subst (λ (es : List Event). IsPrefix es (streams s (h.pushed x) k)) mine (prefix_collect (story_in s) (of x (h.took (Worker k))) (of (Worker k) (h.pushed x)) (j.pipes (Worker k) x))
 
   -- nothing is told of number 0

@@ -55,10 +55,10 @@ low : (t : Terms) (served : IsServed t) (crews : Crews) (shape : Shape) (c : Cor
 low t served crews shape c h l n =
     each_at (λ k. (¬ (k ≡ 0)) × (k < 2 ^ 32)) (collect fresh_in (bare (h.took (Reactor n))))
     (λ k has. (let drawn : Has k (drawn_by h.dids) = each_has (λ s. Has s (drawn_by h.dids)) (collect fresh_in (bare (h.took (Reactor n)))) k (took_drawn t (LegalFor shape) (server t served crews) c h l n) has in
-        let b = l.ports.words.book in
-        let w = each_has (λ s. (¬ (s ≡ 0)) × (s ≤ c.ports.last)) (drawn_by h.dids) k b.low drawn in
-        let least : c.ports.last < 2 ^ 32 = subst (λ v. v < 2 ^ 32) (sym b.last_is) (claims_last t.max_conn t.session_last [] (collect accept_in (h.dids Door)) b.claims) in
-        (w.0, let le : k ≤ c.ports.last = w.1 in omega (arith, le, least))))
+    let b = l.ports.words.book in
+    let w = each_has (λ s. (¬ (s ≡ 0)) × (s ≤ c.ports.last)) (drawn_by h.dids) k b.low drawn in
+    let least : c.ports.last < 2 ^ 32 = subst (λ v. v < 2 ^ 32) (sym b.last_is) (claims_last t.max_conn t.session_last [] (collect accept_in (h.dids Door)) b.claims) in
+    (w.0, let le : k ≤ c.ports.last = w.1 in omega (arith, le, least))))
 
 -- before its turn all that the bridge asks stands
 pub reactor_before : {E : Type 0} (puts : E → MemoryLink → Ended → Bool → E → Type 0) (kept_of : E → List (MemoryLink × Ended)) (t : Terms) (served : IsServed t) (crews : Crews) (shape : Shape) (n : ℕ) (c : Core AState) (s : Table) (d : DoorState) (r : CodeReactor MemoryLink ℕ) (f : Front) (b : Words) (o : PlainWords) (q : PlainTable) (e : E) (got made : Getting) (rows : Rows) →
@@ -98,7 +98,7 @@ reactor_goes {E} puts kept_of t served crews shape n c s d r r2 f b b2 o o2 q e 
     let k : TurnIs kept_of t legal n c.ports s made r2 ask b2 o o2 e2 = turn_is puts kept_of t legal n c.ports s (diary_of past (Reactor n)) r r2 made ask b b2 o o2 e e2 before turns in
     let goes : ReactorTurn t s (got_of got) k.dids k.state (ask_of ask) = subst (λ (a : Ask). ReactorTurn t s (got_of got) k.dids k.state a) (ask_reactor ask) (subst (λ (g : Got). ReactorTurn t s g k.dids k.state (reactor_ask ask)) word k.turns) in
     let did : (server t served crews).Turn (Reactor n) (c.states (Reactor n)) (got_of got) (handed (server t served crews).has c (Reactor n)) k.dids (of_reactor k.state) (ask_of ask) =
-        subst (λ (x : AState). (server t served crews).Turn (Reactor n) x (got_of got) (handed (server t served crews).has c (Reactor n)) k.dids (of_reactor k.state) (ask_of ask)) (sym is) ((n, (lt, refl)), goes) in
+    subst (λ (x : AState). (server t served crews).Turn (Reactor n) x (got_of got) (handed (server t served crews).has c (Reactor n)) k.dids (of_reactor k.state) (ask_of ask)) (sym is) ((n, (lt, refl)), goes) in
     let may = (server t served crews).may (Reactor n) (c.states (Reactor n)) (got_of got) (handed (server t served crews).has c (Reactor n)) k.dids (of_reactor k.state) (ask_of ask) did in
     record {
       dids = k.dids;

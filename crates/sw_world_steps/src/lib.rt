@@ -5,5 +5,6 @@
 mod turns;
 
 pub use turns::{
-    door_turns_are_the_worlds, hand_turns_are_the_worlds, reactor_turns_are_the_worlds, reactor_turns_may_be_made,
+    door_turns_are_the_worlds, hand_turns_are_the_worlds, reactor_turns_are_the_worlds,
+    reactor_turns_may_be_made,
 };

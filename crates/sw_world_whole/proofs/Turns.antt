@@ -125,9 +125,9 @@ module _ {O H T : Type 0} (t : Terms) (served : IsServed t) (crews : Crews) (sha
       let x : Table = a.1.1.0 in
       let go = on a.0 a.1.0 in
       let k : ReactorGoes (λ (e : Keeping). e.kept) t served crews shape n c st.door got (v.reactor o2) (v.ends o2) f b o P.shelf ask =
-          reactor_goes Puts (λ (e : Keeping). e.kept) t served crews shape n c x st.door (v.reactor o1) (v.reactor o2) f P.book b (on_turn t (Reactor n) P.board) o P.shelf (v.ends o1) (v.ends o2) got made ask mid st.law lt a.1.1.1.0
-          (record { front = front st.door c.ports s.front; book = s.book; board = board_turn t (Reactor n) P.board c.ports s.board; table = s.table })
-          is_due refl (go.same x a.1.1.1.1) (first x a.1.1.1.0) same new (keeps_all (v.ends o1) go.room) turn in
+      reactor_goes Puts (λ (e : Keeping). e.kept) t served crews shape n c x st.door (v.reactor o1) (v.reactor o2) f P.book b (on_turn t (Reactor n) P.board) o P.shelf (v.ends o1) (v.ends o2) got made ask mid st.law lt a.1.1.1.0
+      (record { front = front st.door c.ports s.front; book = s.book; board = board_turn t (Reactor n) P.board c.ports s.board; table = s.table })
+      is_due refl (go.same x a.1.1.1.1) (first x a.1.1.1.0) same new (keeps_all (v.ends o1) go.room) turn in
       let Q : Parts O H T = record P { front = f; rows = u; book = b; board = o; owners = slice_set P.owners n o2 } in
       turns Q (Reactor n) got mid k.dids (of_reactor k.state) ask st.door here is_due k.turn k.new asks st.is k.stands
       (one_more t crews v P Q c.states (Reactor n) (of_reactor k.state) (o2, (get_same P.owners n a.0 o2 a.1.0, (k.state, (refl, k.is)))) (λ z w ne old. other_reactors t crews v P Q n o2 refl refl refl z w ne old) st.actors)
@@ -144,22 +144,36 @@ module _ {O H T : Type 0} (t : Terms) (served : IsServed t) (crews : Crews) (sha
       let x : HandState = a.1.1.0 in
       let stands : WorkerStands t crews v.worker (Worker n) h x = subst (λ (g : CodeHand (Line H)). WorkerStands t crews v.worker (Worker n) g x) (some_same a.0 h (sym a.1.0 ∙ is)) a.1.1.1.1 in
       let g : HandWent t served crews shape (Worker n) c st.door x got k P.front b o q ask (turn_calls_of (plain_rules (Acts acts)) h P.book P.shelf (on_turn t (Worker n) P.board) got k b q o ask w.0) =
-          hand_goes (Acts acts) t served crews shape (Worker n) c x st.door h k P.front P.book b (on_turn t (Worker n) P.board) o P.shelf q got ask mid st.law (inl (n, (lt, refl))) a.1.1.1.0
-          (record { front = s.front; book = s.book; board = board_turn t (Worker n) P.board c.ports s.board; table = s.table })
-          is_due refl stands.is.hand code (line_numbers acts num) stands.numbered w in
+      hand_goes (Acts acts) t served crews shape (Worker n) c x st.door h k P.front P.book b (on_turn t (Worker n) P.board) o P.shelf q got ask mid st.law (inl (n, (lt, refl))) a.1.1.1.0
+      (record { front = s.front; book = s.book; board = board_turn t (Worker n) P.board c.ports s.board; table = s.table })
+      is_due refl stands.is.hand code (line_numbers acts num) stands.numbered w in
       let Q : Parts O H T = record P { rows = u; book = b; board = o; shelf = q; workers = slice_set P.workers n k } in
       let fits : GotFits t x.stage (hand_got (got_of got)) = (subst (λ (z : AState). (server t served crews).Quiet (Worker n) z (got_of got) (diary_of st.law.0 (Worker n))) a.1.1.1.0 (is_due.quiet st.law.0 st.law.1)).fits in
       elim g.came [
         | inl m ↦ inl (m.0, fails (Worker n) got mid g.dids (of_hand x) here is_due m.1)
-        | inr m ↦ inr (m.0, turns Q (Worker n) got mid g.dids (of_hand m.1.gone.state) ask st.door here is_due m.1.turn m.1.new asks st.is g.stands
-            (one_more t crews v P Q c.states (Worker n) (of_hand m.1.gone.state)
-              (k, (get_same P.workers n h k is, (m.1.gone.state, (refl, record {
-                is = worker_goes acts t crews (Worker n) itself x (got_of got) h k P.book b P.shelf q (on_turn t (Worker n) P.board) o ask (turn_calls_of (plain_rules (Acts acts)) h P.book P.shelf (on_turn t (Worker n) P.board) got k b q o ask w.0) g.dids stands.is fits w.1 m.1.gone;
-                numbered = m.1.numbered;
-                row = row;
-                tells = worker_tells v.worker acts t crews (Worker n) itself x (got_of got) h k P.book b P.shelf q (on_turn t (Worker n) P.board) o ask (turn_calls_of (plain_rules (Acts acts)) h P.book P.shelf (on_turn t (Worker n) P.board) got k b q o ask w.0) g.dids tells stands.is stands.tells fits w.1 m.1.gone;
-              }))))
-              (λ z w2 ne old. other_workers t crews v P Q n k refl refl refl z w2 ne old) st.actors))
+        | inr m ↦ inr (
+          m.0,
+          turns Q (Worker n) got mid g.dids (of_hand m.1.gone.state) ask st.door here is_due m.1.turn m.1.new asks st.is g.stands
+              (one_more t crews v P Q c.states (Worker n) (of_hand m.1.gone.state) (
+                k,
+                (
+                  get_same P.workers n h k is,
+                  (
+                    m.1.gone.state,
+                    (
+                      refl,
+                      record {
+                        is = worker_goes acts t crews (Worker n) itself x (got_of got) h k P.book b P.shelf q (on_turn t (Worker n) P.board) o ask (turn_calls_of (plain_rules (Acts acts)) h P.book P.shelf (on_turn t (Worker n) P.board) got k b q o ask w.0) g.dids stands.is fits w.1 m.1.gone;
+                        numbered = m.1.numbered;
+                        row = row;
+                        tells = worker_tells v.worker acts t crews (Worker n) itself x (got_of got) h k P.book b P.shelf q (on_turn t (Worker n) P.board) o ask (turn_calls_of (plain_rules (Acts acts)) h P.book P.shelf (on_turn t (Worker n) P.board) got k b q o ask w.0) g.dids tells stands.is stands.tells fits w.1 m.1.gone;
+                      },
+                    ),
+                  ),
+                ),
+              )
+              (λ z w2 ne old. other_workers t crews v P Q n k refl refl refl z w2 ne old) st.actors),
+        )
       ]
 
   -- A TASK WORKER
@@ -174,19 +188,33 @@ module _ {O H T : Type 0} (t : Terms) (served : IsServed t) (crews : Crews) (sha
       let x : HandState = a.1.1.0 in
       let stands : TaskerStands t v.tasker (Tasker n) h x = subst (λ (g : CodeHand T). TaskerStands t v.tasker (Tasker n) g x) (some_same a.0 h (sym a.1.0 ∙ is)) a.1.1.1.1 in
       let g : HandWent t served crews shape (Tasker n) c st.door x got k P.front b o q ask (turn_calls_of (plain_rules acts) h P.book P.shelf (on_turn t (Tasker n) P.board) got k b q o ask w.0) =
-          hand_goes acts t served crews shape (Tasker n) c x st.door h k P.front P.book b (on_turn t (Tasker n) P.board) o P.shelf q got ask mid st.law (inr (n, (lt, refl))) a.1.1.1.0
-          (record { front = s.front; book = s.book; board = board_turn t (Tasker n) P.board c.ports s.board; table = s.table })
-          is_due refl stands.is code num stands.numbered w in
+      hand_goes acts t served crews shape (Tasker n) c x st.door h k P.front P.book b (on_turn t (Tasker n) P.board) o P.shelf q got ask mid st.law (inr (n, (lt, refl))) a.1.1.1.0
+      (record { front = s.front; book = s.book; board = board_turn t (Tasker n) P.board c.ports s.board; table = s.table })
+      is_due refl stands.is code num stands.numbered w in
       let Q : Parts O H T = record P { rows = u; book = b; board = o; shelf = q; taskers = slice_set P.taskers n k } in
       elim g.came [
         | inl m ↦ inl (m.0, fails (Tasker n) got mid g.dids (of_hand x) here is_due m.1)
-        | inr m ↦ inr (m.0, turns Q (Tasker n) got mid g.dids (of_hand m.1.gone.state) ask st.door here is_due m.1.turn m.1.new asks st.is g.stands
-            (one_more t crews v P Q c.states (Tasker n) (of_hand m.1.gone.state)
-              (k, (get_same P.taskers n h k is, (m.1.gone.state, (refl, record {
-                is = m.1.gone.code;
-                numbered = m.1.numbered;
-                row = row;
-                tells = tasker_tells v.tasker acts t crews.limit (Tasker n) itself x (got_of got) h k P.book b P.shelf q (on_turn t (Tasker n) P.board) o ask (turn_calls_of (plain_rules acts) h P.book P.shelf (on_turn t (Tasker n) P.board) got k b q o ask w.0) g.dids tells stands.tells w.1 m.1.gone;
-              }))))
-              (λ z w2 ne old. other_taskers t crews v P Q n k refl refl refl z w2 ne old) st.actors))
+        | inr m ↦ inr (
+          m.0,
+          turns Q (Tasker n) got mid g.dids (of_hand m.1.gone.state) ask st.door here is_due m.1.turn m.1.new asks st.is g.stands
+              (one_more t crews v P Q c.states (Tasker n) (of_hand m.1.gone.state) (
+                k,
+                (
+                  get_same P.taskers n h k is,
+                  (
+                    m.1.gone.state,
+                    (
+                      refl,
+                      record {
+                        is = m.1.gone.code;
+                        numbered = m.1.numbered;
+                        row = row;
+                        tells = tasker_tells v.tasker acts t crews.limit (Tasker n) itself x (got_of got) h k P.book b P.shelf q (on_turn t (Tasker n) P.board) o ask (turn_calls_of (plain_rules acts) h P.book P.shelf (on_turn t (Tasker n) P.board) got k b q o ask w.0) g.dids tells stands.tells w.1 m.1.gone;
+                      },
+                    ),
+                  ),
+                ),
+              )
+              (λ z w2 ne old. other_taskers t crews v P Q n k refl refl refl z w2 ne old) st.actors),
+        )
       ]

@@ -6,7 +6,8 @@ mod outside;
 mod turns;
 
 pub use outside::{
-    a_net_that_ends_is_a_step, a_new_core_stands, a_script_is_a_step, an_arrival_is_a_step, want_of_memory_is_a_step,
+    a_net_that_ends_is_a_step, a_new_core_stands, a_script_is_a_step, an_arrival_is_a_step,
+    want_of_memory_is_a_step,
 };
 pub use turns::{
     a_call_is_a_step, a_doors_turn_is_a_step, a_reactors_turn_is_a_step, a_taskers_turn_is_a_step,
