@@ -16,8 +16,8 @@ ghost use Rattle.sw_world_asks.specs.Due.{TurnIsDue, CallIsStep, TurnIsStep};
 
 use sw_world_laws::Family;
 
-/// Where the places made a pipe call, or the actor is finished, that is a step of the world: the call answers so, the pipes are
-/// as it leaves them, and nothing else changes.
+/// Where the places made a pipe call, or the actor is finished, that is a step of the world: the call answers so, the
+/// pipes are as it leaves them, and nothing else changes.
 pub fn calls_are_steps<F: Family>()
     ensures { (shape : Shape) (c : Core (F.actors).State) (y : ActorId) (r s : Rows) →
         Law F.terms (LegalFor shape) F.actors c → c.lost ≡ false → there F.terms y ≡ true →

@@ -1,5 +1,5 @@
-//! What an actor asks for at the end of a turn, as steps of the world: its pipe call, or its next turn. The functions do nothing:
-//! their clauses are the theorems.
+//! What an actor asks for at the end of a turn, as steps of the world: its pipe call, or its next turn. The functions
+//! do nothing: their clauses are the theorems.
 #![tactic(auto)]
 
 mod asks;

@@ -52,8 +52,8 @@ pub fn taken_steps_stand()
         h ≡ record f { links = h.links } → TakesAhead f.links session steps h.links → FrontStands t h s p }
 {}
 
-/// A turn makes calls that the ports answer so, and is a turn of the family's door; net, links, book and board stand as these calls
-/// leave them, and a link that it pushes is new.
+/// A turn makes calls that the ports answer so, and is a turn of the family's door; net, links, book and board stand as
+/// these calls leave them, and a link that it pushes is new.
 pub fn turns_fit()
     ensures { (t : Terms) (shape : Shape) (p : Ports) (f h : Front) (s : DoorState) (b c : Words) (o q : PlainWords)
         (got : Getting) (ask : Asking) → FrontStands t f s p → GotNew TheDoor got → BookStands t b p → BoardStands t o p →

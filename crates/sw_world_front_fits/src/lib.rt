@@ -1,5 +1,5 @@
-//! The front of the core is the world's: the door's turns over the plain ports are turns of the family's door, and the net and the links are
-//! the world's. The functions do nothing: their clauses are the theorems.
+//! The front of the core is the world's: the door's turns over the plain ports are turns of the family's door, and the
+//! net and the links are the world's. The functions do nothing: their clauses are the theorems.
 #![tactic(auto)]
 
 mod laws;

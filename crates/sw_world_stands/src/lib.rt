@@ -1,5 +1,5 @@
-//! The code's places and links as the world of `sw_world_laws` has them: a pipe call of the code is a step of the world, and a turn that
-//! the code makes is due there. The functions do nothing: their clauses are the theorems.
+//! The code's places and links as the world of `sw_world_laws` has them: a pipe call of the code is a step of the
+//! world, and a turn that the code makes is due there. The functions do nothing: their clauses are the theorems.
 #![tactic(auto)]
 
 mod links;

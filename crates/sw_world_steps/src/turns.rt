@@ -64,7 +64,8 @@ pub fn reactor_turns_may_be_made<E: Ends<MemoryLink>>()
         Before E.put_gives kept_of t n c.ports s (diary_of law.0 (Reactor n)) r made b o e }
 {}
 
-/// A turn of a reactor's code is a turn of the world's reactor; what it begins with may bring a link whose script went on.
+/// A turn of a reactor's code is a turn of the world's reactor; what it begins with may bring a link whose script went
+/// on.
 pub fn reactor_turns_are_the_worlds<E: Ends<MemoryLink>>()
     ensures { (kept_of : E → List (MemoryLink × Ended)) (t : Terms) (served : IsServed t) (crews : Crews) (shape : Shape) (n : ℕ)
         (c : Core AState) (s : Table) (d : DoorState) (r r2 : CodeReactor MemoryLink ℕ) (f : Front) (b b2 : Words)
@@ -77,8 +78,8 @@ pub fn reactor_turns_are_the_worlds<E: Ends<MemoryLink>>()
         ReactorGoes kept_of t served crews shape n c d got r2 e2 f b2 o2 q ask }
 {}
 
-/// A turn of the code of a worker or a task worker, whose handler acts on sessions other than 0, is a turn of the world's, or it found
-/// no memory, as one of the world's finds none.
+/// A turn of the code of a worker or a task worker, whose handler acts on sessions other than 0, is a turn of the
+/// world's, or it found no memory, as one of the world's finds none.
 pub fn hand_turns_are_the_worlds<H: Handler>()
     ensures { (t : Terms) (served : IsServed t) (crews : Crews) (shape : Shape) (y : ActorId) (c : Core AState) (s : HandState)
         (d : DoorState) (h k : CodeHand H) (f : Front) (b b2 : Words) (o o2 : PlainWords) (q q2 : PlainTable) (got : Getting)

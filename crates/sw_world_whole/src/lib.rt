@@ -1,5 +1,5 @@
-//! The whole code of the core stands for a world that keeps its law: before any step, and behind each step, which is one of the world's or
-//! wanted memory. The functions do nothing: their clauses are the theorems.
+//! The whole code of the core stands for a world that keeps its law: before any step, and behind each step, which is
+//! one of the world's or wanted memory. The functions do nothing: their clauses are the theorems.
 #![tactic(auto)]
 
 mod outside;

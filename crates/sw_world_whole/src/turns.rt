@@ -63,7 +63,8 @@ pub fn a_reactors_turn_is_a_step<O, H, T>()
         IsStep t served crews shape v c (record P { front = f; rows = u; book = b; board = o; owners = slice_set P.owners n o2 }) }
 {}
 
-/// A turn of a worker, whose handler acts on sessions other than 0 and tells what it was given and did; or it wanted memory.
+/// A turn of a worker, whose handler acts on sessions other than 0 and tells what it was given and did; or it wanted
+/// memory.
 pub fn a_workers_turn_is_a_step<O, H: Handler, T>()
     ensures { (t : Terms) (served : IsServed t) (crews : Crews) (shape : Shape) (v : Views O H T) (P : Parts O H T)
         (c : Core AState) → Stands t served crews shape v P c → (n : ℕ) (got : Getting) (mid u : Rows)
