@@ -20,6 +20,7 @@ use Rattle.sw_world_places.specs.Links.{kept}
 use Rattle.sw_world_front.specs.declared.front.Front.{Front}
 use Rattle.sw_world_front.specs.Front.{arrived, net_ended}
 use Rattle.sw_world_front_fits.proofs.Front.{front_arrives, front_ends, front_keeps}
+use Rattle.sw_world_stands.specs.Links.{LinksStand}
 use Rattle.sw_world_stands.specs.Rows.{RowsStand}
 use Rattle.sw_world_steps.specs.Server.{IsServed, server, AState}
 use Rattle.sw_world_steps.specs.Shared.{SharedStands}
@@ -93,5 +94,15 @@ module _ {O H T : Type 0} (t : Terms) (served : IsServed t) (crews : Crews) (sha
       (record { front = front_keeps t P.front st.door c.ports n step s.front; book = s.book; board = s.board; table = s.table })
 
   -- a step that wanted memory
-  pub wants : IsLostStep t served crews shape c
-  wants = record { step = Wants; may = λ e. tt; lost = ap (λ (d : Core AState). d.lost) (found t (server t served crews) c Wants st.sound) }
+  pub wants : IsLostStep t served crews shape P c
+  wants =
+      let p = server t served crews in
+      let same : next t p c Wants ≡ next_by t p c Wants = found t p c Wants st.sound in
+      record {
+        step = Wants;
+        may = λ e. tt;
+        law = next_keeps t (LegalFor shape) p c Wants (λ e. tt) st.law;
+        lost = ap (λ (d : Core AState). d.lost) same;
+        states = λ z. ap (λ (d : Core AState). d.states z) same;
+        links = subst (λ (d : Core AState). LinksStand t P.front.links d.ports.given d.ports.waiting) (sym same) st.shared.front.links;
+      }

@@ -44,7 +44,9 @@ use Rattle.sw_world_reactor.specs.Reactors.{GotFirst}
 use Rattle.sw_world_reactor_fits.specs.Plain.{memory_tells, plain_ports, ReactorIs}
 use Rattle.sw_world_stands.specs.Asked.{got_of, ask_of}
 use Rattle.sw_world_stands.specs.New.{AskNew}
+use Rattle.sw_world_stands.specs.Links.{LinksStand}
 use Rattle.sw_world_stands.proofs.Gets.{some_same, get_same}
+use Rattle.sw_world_stands.proofs.Rows.{set_same}
 use Rattle.sw_world_asks.specs.Due.{TurnIsDue, TurnIsStep}
 use Rattle.sw_world_asks.proofs.Due.{turn_due, turn_steps, turn_leaves}
 use Rattle.sw_world_steps.specs.Server.{IsServed, server, AState, of_door, of_reactor, of_hand}
@@ -97,10 +99,17 @@ module _ {O H T : Type 0} (t : Terms) (served : IsServed t) (crews : Crews) (sha
 
   -- without
   fails : (y : ActorId) (got : Getting) (mid : Rows) (dids : List Did) (x : AState) → there t y ≡ true → TurnIsDue t (LegalFor shape) (server t served crews) c y got mid →
-      IsTurn t (LegalFor shape) (server t served crews) c y (failed dids x) (got_of got) → IsLostStep t served crews shape c
-  fails y got mid dids x here is_due turn =
+      IsTurn t (LegalFor shape) (server t served crews) c y (failed dids x) (got_of got) → c.states y ≡ x → LinksStand t P.front.links (all_ported t c.ports y dids).given (all_ported t c.ports y dids).waiting → IsLostStep t served crews shape P c
+  fails y got mid dids x here is_due turn still links =
       let k : TurnIsStep t (LegalFor shape) (server t served crews) c y (failed dids x) = turn_steps t (LegalFor shape) (server t served crews) c y mid got (failed dids x) st.sound here is_due turn in
-      record { step = GoesStep y (failed dids x); may = k.may; lost = ap (λ (d : Core AState). d.lost) k.is }
+      record {
+        step = GoesStep y (failed dids x);
+        may = k.may;
+        law = next_keeps t (LegalFor shape) (server t served crews) c (GoesStep y (failed dids x)) k.may st.law;
+        lost = ap (λ (d : Core AState). d.lost) k.is;
+        states = λ z. ap (λ (d : Core AState). d.states z) k.is ∙ set_same c.states y x still z;
+        links = subst (λ (d : Core AState). LinksStand t P.front.links d.ports.given d.ports.waiting) (sym k.is) links;
+      }
 
   -- THE DOOR
   pub door_turns : (got : Getting) (mid u : Rows) (h : Front) (b : Words) (o : PlainWords) (ask : Asking) → Goes P.rows (number_of t Door) (Some got) mid → TurnsFront P.front P.book (on_turn t Door P.board) got h b o ask → AsksNext t Door mid ask u → IsStep t served crews shape v c (record P { front = h; rows = u; book = b; board = o })
@@ -135,7 +144,7 @@ module _ {O H T : Type 0} (t : Terms) (served : IsServed t) (crews : Crews) (sha
   -- A WORKER
   pub worker_turns : (acts : Acting H) (n : ℕ) (got : Getting) (mid u : Rows) (h k : CodeHand (Line H)) (b : Words) (q : PlainTable) (o : PlainWords) (ask : Asking) → Numbers acts → Tells v.worker acts → n < t.worker_num → Goes P.rows (number_of t (Worker n)) (Some got) mid → slice_get P.workers n ≡ Some h → IsHand k →
       TurnsBy (plain_rules (Acts acts)) h P.book P.shelf (on_turn t (Worker n) P.board) got k b q o ask → AsksNext t (Worker n) mid ask u → HasRow t.columns k.house k.row →
-      ((k.lost ≡ true) × IsLostStep t served crews shape c) ⊎ ((k.lost ≡ false) × IsStep t served crews shape v c (record P { rows = u; book = b; board = o; shelf = q; workers = slice_set P.workers n k }))
+      ((k.lost ≡ true) × IsLostStep t served crews shape P c) ⊎ ((k.lost ≡ false) × IsStep t served crews shape v c (record P { rows = u; book = b; board = o; shelf = q; workers = slice_set P.workers n k }))
   worker_turns acts n got mid u h k b q o ask num tells lt goes is code w asks row =
       let here : there t (Worker n) ≡ true = lt_test n t.worker_num lt in
       let is_due = due (Worker n) got mid here goes in
@@ -150,7 +159,7 @@ module _ {O H T : Type 0} (t : Terms) (served : IsServed t) (crews : Crews) (sha
       let Q : Parts O H T = record P { rows = u; book = b; board = o; shelf = q; workers = slice_set P.workers n k } in
       let fits : GotFits t x.stage (hand_got (got_of got)) = (subst (λ (z : AState). (server t served crews).Quiet (Worker n) z (got_of got) (diary_of st.law.0 (Worker n))) a.1.1.1.0 (is_due.quiet st.law.0 st.law.1)).fits in
       elim g.came [
-        | inl m ↦ inl (m.0, fails (Worker n) got mid g.dids (of_hand x) here is_due m.1)
+        | inl m ↦ inl (m.0, fails (Worker n) got mid g.dids (of_hand x) here is_due m.1 a.1.1.1.0 g.stands.front.links)
         | inr m ↦ inr (
           m.0,
           turns Q (Worker n) got mid g.dids (of_hand m.1.gone.state) ask st.door here is_due m.1.turn m.1.new asks st.is g.stands
@@ -179,7 +188,7 @@ module _ {O H T : Type 0} (t : Terms) (served : IsServed t) (crews : Crews) (sha
   -- A TASK WORKER
   pub tasker_turns : (acts : Acting T) (n : ℕ) (got : Getting) (mid u : Rows) (h k : CodeHand T) (b : Words) (q : PlainTable) (o : PlainWords) (ask : Asking) → Numbers acts → Tells v.tasker acts → n < t.tasker_num → Goes P.rows (number_of t (Tasker n)) (Some got) mid → slice_get P.taskers n ≡ Some h → IsHand k →
       TurnsBy (plain_rules acts) h P.book P.shelf (on_turn t (Tasker n) P.board) got k b q o ask → AsksNext t (Tasker n) mid ask u → HasRow t.columns k.house k.row →
-      ((k.lost ≡ true) × IsLostStep t served crews shape c) ⊎ ((k.lost ≡ false) × IsStep t served crews shape v c (record P { rows = u; book = b; board = o; shelf = q; taskers = slice_set P.taskers n k }))
+      ((k.lost ≡ true) × IsLostStep t served crews shape P c) ⊎ ((k.lost ≡ false) × IsStep t served crews shape v c (record P { rows = u; book = b; board = o; shelf = q; taskers = slice_set P.taskers n k }))
   tasker_turns acts n got mid u h k b q o ask num tells lt goes is code w asks row =
       let here : there t (Tasker n) ≡ true = lt_test n t.tasker_num lt in
       let is_due = due (Tasker n) got mid here goes in
@@ -193,7 +202,7 @@ module _ {O H T : Type 0} (t : Terms) (served : IsServed t) (crews : Crews) (sha
       is_due refl stands.is code num stands.numbered w in
       let Q : Parts O H T = record P { rows = u; book = b; board = o; shelf = q; taskers = slice_set P.taskers n k } in
       elim g.came [
-        | inl m ↦ inl (m.0, fails (Tasker n) got mid g.dids (of_hand x) here is_due m.1)
+        | inl m ↦ inl (m.0, fails (Tasker n) got mid g.dids (of_hand x) here is_due m.1 a.1.1.1.0 g.stands.front.links)
         | inr m ↦ inr (
           m.0,
           turns Q (Tasker n) got mid g.dids (of_hand m.1.gone.state) ask st.door here is_due m.1.turn m.1.new asks st.is g.stands

@@ -27,6 +27,7 @@ use Rattle.sw_world_places.specs.Places.{Rows, AtRow, new_rows}
 use Rattle.sw_world_places.specs.declared.place.Next.TheVariants.{Asked}
 use Rattle.sw_world_front.specs.declared.front.Front.{Front}
 use Rattle.sw_world_front_fits.specs.Front.{FrontStands}
+use Rattle.sw_world_stands.specs.Links.{LinksStand}
 use Rattle.sw_world_stands.specs.Rows.{RowsStand}
 use Rattle.sw_world_steps.specs.Server.{IsServed, server, AState, of_door, of_reactor, of_hand}
 use Rattle.sw_world_steps.specs.Shared.{SharedStands}
@@ -87,11 +88,14 @@ pub record IsStep {O H T : Type 0} (t : Terms) (served : IsServed t) (crews : Cr
   pub may : MayStep t (LegalFor shape) (server t served crews) c step
   pub stands : Stands t served crews shape v Q (next t (server t served crews) c step)
 
--- or one that wanted memory
-pub record IsLostStep (t : Terms) (served : IsServed t) (crews : Crews) (shape : Shape) (c : Core AState) : Type 0 where
+-- or one that wanted memory: all actors' states, and the links that were accepted and that wait, are as they were
+pub record IsLostStep {O H T : Type 0} (t : Terms) (served : IsServed t) (crews : Crews) (shape : Shape) (P : Parts O H T) (c : Core AState) : Type 0 where
   pub step : Step AState
   pub may : MayStep t (LegalFor shape) (server t served crews) c step
+  pub law : Law t (LegalFor shape) (server t served crews) (next t (server t served crews) c step)
   pub lost : (next t (server t served crews) c step).lost ≡ true
+  pub states : (z : ActorId) → (next t (server t served crews) c step).states z ≡ c.states z
+  pub links : LinksStand t P.front.links (next t (server t served crews) c step).ports.given (next t (server t served crews) c step).ports.waiting
 
 -- before any step: the code of an actor before its first turn
 abbrev pub ActorIsNew : {O H T : Type 0} → (t : Terms) → Crews → Views O H T → Parts O H T → ActorId → Type 0

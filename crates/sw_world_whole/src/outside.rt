@@ -43,5 +43,5 @@ pub fn a_script_is_a_step<O, H, T>()
 /// A step that wanted memory before it did anything is one.
 pub fn want_of_memory_is_a_step<O, H, T>()
     ensures { (t : Terms) (served : IsServed t) (crews : Crews) (shape : Shape) (v : Views O H T) (P : Parts O H T)
-        (c : Core AState) → Stands t served crews shape v P c → IsLostStep t served crews shape c }
+        (c : Core AState) → Stands t served crews shape v P c → IsLostStep t served crews shape P c }
 {}

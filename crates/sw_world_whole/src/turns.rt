@@ -73,7 +73,7 @@ pub fn a_workers_turn_is_a_step<O, H: Handler, T>()
         Goes P.rows (number_of t (Worker n)) (Some got) mid → slice_get P.workers n ≡ Some h → IsHand k →
         TurnsBy (plain_rules (Acts H.acts)) h P.book P.shelf (on_turn t (Worker n) P.board) got k b q o ask →
         AsksNext t (Worker n) mid ask u → HasRow t.columns k.house k.row →
-        ((k.lost ≡ true) × IsLostStep t served crews shape c) ⊎ ((k.lost ≡ false)
+        ((k.lost ≡ true) × IsLostStep t served crews shape P c) ⊎ ((k.lost ≡ false)
         × IsStep t served crews shape v c (record P { rows = u; book = b; board = o; shelf = q; workers = slice_set P.workers n k })) }
 {}
 
@@ -85,6 +85,6 @@ pub fn a_taskers_turn_is_a_step<O, H, T: Handler>()
         n < t.tasker_num → Goes P.rows (number_of t (Tasker n)) (Some got) mid → slice_get P.taskers n ≡ Some h → IsHand k →
         TurnsBy (plain_rules T.acts) h P.book P.shelf (on_turn t (Tasker n) P.board) got k b q o ask →
         AsksNext t (Tasker n) mid ask u → HasRow t.columns k.house k.row →
-        ((k.lost ≡ true) × IsLostStep t served crews shape c) ⊎ ((k.lost ≡ false)
+        ((k.lost ≡ true) × IsLostStep t served crews shape P c) ⊎ ((k.lost ≡ false)
         × IsStep t served crews shape v c (record P { rows = u; book = b; board = o; shelf = q; taskers = slice_set P.taskers n k })) }
 {}
