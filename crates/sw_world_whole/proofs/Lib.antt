@@ -1,4 +1,5 @@
 pub mod Others
+pub mod Scripts
 pub mod Outside
 pub mod Calls
 pub mod Turns
