@@ -1,5 +1,5 @@
 //! The rows of a bucket, copied in byte order of their keys.
-ghost use Rattle.std.specs.Prelude.{◌≡◌, ◌+◌, ◌≤◌, map, vec_len, vec_capacity, IfOk, IsPermutation};
+ghost use Rattle.std.specs.Prelude.{◌≡◌, ◌+◌, ◌≤◌, ◌++◌, map, vec_len, vec_capacity, IfOk, IsPermutation};
 ghost use Rattle.std.specs.List.Sorted.{IsSortedBy};
 ghost use Rattle.std.specs.Ordering.{nat_cmp, is_lt};
 ghost use Rattle.std.specs.Cmp.Lexicographic.{slice_cmp};
@@ -78,4 +78,15 @@ pub(crate) fn copied_for(
     let copies = in_order(*rows.allocator(), chain, schema)?;
     rows.reserve(copies.len())?;
     Ok(copies)
+}
+
+/// Puts rows at the end of a list that has room for them.
+pub(crate) fn add_all(rows: &mut Vec<DumpRow>, more: Vec<DumpRow>)
+    requires room { vec_len rows.old + vec_len more ≤ vec_capacity rows.old }
+    ensures { rows.new.items ≡ rows.old.items ++ more.items }
+{
+    let mut more = more;
+    let Ok(()) = rows.append(&mut more) else {
+        unreachable!()
+    };
 }

@@ -8,7 +8,7 @@ ghost use Rattle.sw_table.specs.Holding.{free};
 ghost use Rattle.sw_table.specs.Parting.{HoldsPart, Parted, PartRefused, part_fault_of};
 
 use crate::calls::{Making, Of};
-use crate::copies::copied_for;
+use crate::copies::{add_all, copied_for};
 use crate::table::{Seat, Table};
 use std::marker::Brand;
 use sw_base::{Reply, WordId};
@@ -106,14 +106,11 @@ impl Table {
             (λ placed. Parted self.now (free seat.old) seat.new bucket rows.old.items rows.new.items placed)
             (λ fault. (rows.new.items ≡ rows.old.items) × PartRefused self.now (free seat.old) seat.new bucket fault) }
     {
-        let mut copies = copies;
         match self.locks.draw::<Of<N>>(seat, self.last_call, Change::Same) {
             Ok(drawn) => {
                 self.locks
                     .give_row(seat, bucket, Bucket::of(chain, &self.schema));
-                let Ok(()) = rows.append(&mut copies) else {
-                    unreachable!()
-                };
+                add_all(rows, copies);
                 Ok(Placed {
                     at: drawn.at,
                     reply: Reply::Count(drawn.rows),
