@@ -14,3 +14,10 @@ crew_still h k y z crew house sizes = subst (λ (n : House). IsCrew n z) (sym ho
 -- a buffer of the columns' kinds is the row's, whether there is a Table or not
 pub row_there : (columns : List Column) (h : House) (row : List Value) → HasKinds columns row → HasRow columns h row
 row_there columns h row kinds = λ _. kinds
+
+-- and it stays so for the same columns, house and row
+pub row_still : (columns others : List Column) (h k : House) (row other : List Value) → HasRow columns h row → others ≡ columns → k ≡ h → other ≡ row → HasRow others k other
+row_still columns others h k row other has same house rows =
+    subst (λ (x : List Column). HasRow x k other) (sym same)
+    (subst (λ (x : House). HasRow columns x other) (sym house)
+    (subst (λ (x : List Value). HasRow columns h x) (sym rows) has))

@@ -1,5 +1,6 @@
 -- A worker or a task worker with its ports, as it may take its next turn.
 use Rattle.std.specs.Prelude.{ℕ, ◌<◌, ◌≤◌, List}
+use Rattle.sw_base.specs.declared.table.Value.{Value}
 use Rattle.sw_column.specs.declared.column.Column.{Column}
 use Rattle.sw_port_board.specs.PlainBoard.{PlainWords}
 use Rattle.sw_port_board.specs.declared.crew.Crew.{Crew}
@@ -11,10 +12,18 @@ use Rattle.sw_hand_cases.specs.declared.playing.Actor.{Actor}
 use Rattle.sw_hand_cases.specs.declared.playing.Actor.TheVariants.{Worker, Tasker}
 use Rattle.sw_hand_cases.specs.declared.shelf.CaseShelf.{CaseShelf}
 
+-- an actor's house, and its row's buffer
+abbrev pub house_of : Actor → House
+house_of (Worker w) = w.house
+house_of (Tasker w) = w.house
+
+abbrev pub row_of : Actor → List Value
+row_of (Worker w) = w.row
+row_of (Tasker w) = w.row
+
 -- the board's crews are the server's, and the row's buffer has the Table's columns
 abbrev pub MayTurn : Actor → List Column → Sizes → Type 0
-MayTurn (Worker w) columns sizes = IsCrew w.house sizes × HasRow columns w.house w.row
-MayTurn (Tasker w) columns sizes = IsCrew w.house sizes × HasRow columns w.house w.row
+MayTurn a columns sizes = IsCrew (house_of a) sizes × HasRow columns (house_of a) (row_of a)
 
 -- an actor with its ports
 pub record Played : Type 0 where

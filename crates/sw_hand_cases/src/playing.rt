@@ -138,7 +138,7 @@ impl Play {
     }
 
     /// A turn, with what the last pipe call gave.
-    #[tactic(auto, using(crate::proofs::Turning::crew_still))]
+    #[tactic(auto, using(crate::proofs::Turning::crew_still, crate::proofs::Turning::row_still))]
     pub fn turn(&mut self, alloc: Global, got: Got<CaseMessage>) -> Ask<CaseMessage> {
         match &mut self.actor {
             Actor::Worker(worker) => worker.turn(
@@ -169,6 +169,7 @@ impl Play {
     }
 
     /// The stop word is set.
+    #[tactic(auto, using(crate::proofs::Turning::crew_still, crate::proofs::Turning::row_still))]
     pub fn stop(&mut self) {
         self.board.stop();
     }
@@ -179,11 +180,13 @@ impl Play {
     }
 
     /// The next call of the Table is refused so.
+    #[tactic(auto, using(crate::proofs::Turning::crew_still, crate::proofs::Turning::row_still))]
     pub fn set_fault(&mut self, fault: Option<CallFault>) {
         self.shelf.fault = fault;
     }
 
     /// Names the actor whose words are written, where it is there.
+    #[tactic(auto, using(crate::proofs::Turning::crew_still, crate::proofs::Turning::row_still))]
     fn turn_of(&mut self, actor: u32) -> bool {
         if actor < self.board.sizes().actors {
             self.board.turn_of(actor);
@@ -194,6 +197,7 @@ impl Play {
     }
 
     /// A task worker is idle.
+    #[tactic(auto, using(crate::proofs::Turning::crew_still, crate::proofs::Turning::row_still))]
     pub fn mark_tasker(&mut self, number: u32) {
         let sizes = self.board.sizes();
         if number < sizes.taskers && self.turn_of(sizes.workers.saturating_add(number)) {
@@ -204,6 +208,7 @@ impl Play {
     }
 
     /// Another actor counts.
+    #[tactic(auto, using(crate::proofs::Turning::crew_still, crate::proofs::Turning::row_still))]
     pub fn add(&mut self, counter: Option<Counter>) {
         let last = self.board.sizes().actors.saturating_sub(1);
         if let Some(counter) = counter {
@@ -216,6 +221,7 @@ impl Play {
     }
 
     /// Whether the actor's idle word says idle.
+    #[tactic(auto, using(crate::proofs::Turning::crew_still, crate::proofs::Turning::row_still))]
     fn is_idle(&mut self) -> bool {
         if self.number < self.board.sizes().members(self.crew) {
             self.board.idle(self.crew, self.number) == Some(self.number)
@@ -225,6 +231,7 @@ impl Play {
     }
 
     /// What the next turn's effects are reckoned from. No calls of the book are shown.
+    #[tactic(auto, using(crate::proofs::Turning::crew_still, crate::proofs::Turning::row_still))]
     pub fn effects(&mut self) -> Effects {
         self.book.clear();
         Effects {
@@ -281,6 +288,7 @@ impl Play {
     }
 
     /// Prints what a turn did to its ports.
+    #[tactic(auto, using(crate::proofs::Turning::crew_still, crate::proofs::Turning::row_still))]
     pub fn put_effects(&mut self, out: &mut String, before: Effects) -> Result<(), OutOfMemory> {
         self.put_book(out)?;
         put_more(out, "table", before.calls as u64, self.shelf.calls as u64)?;
