@@ -70,6 +70,10 @@ may_turn r b ready apart = record { ready = ready; apart = apart }
 pub may_ready : {L : Type 0} (r : Reactor L CaseTicket) (b : CaseBook) → MayTurn r b → IsReady number_of r
 may_ready r b may = may.ready
 
+-- a book of the reactor's size has slots
+pub some_slot : {L : Type 0} (r : Reactor L CaseTicket) (b : CaseBook) → MayTurn r b → b.size ≡ r.terms.max_conn → 0 < b.size
+some_slot r b may size = subst (λ (n : ℕ). 0 < n) (sym size) may.ready.slots
+
 -- and of the tickets, where no link is new
 pub none_brought : {L : Type 0} (r : Reactor L CaseTicket) (b : CaseBook) (got : Got (Msg L CaseTicket)) → MayTurn r b → brought got ≡ [] → AreApart Holds Differ b (with_brought r got)
 none_brought r b got may none = apart_none b (tickets r) (brought got) may.apart none

@@ -197,7 +197,7 @@ impl<L: Link + Drop> Scene<L> {
     }
 
     /// A turn in which a new link of this session was taken; None where a connection has the session's slot.
-    #[tactic(auto, using(crate::proofs::Apart::one_brought, crate::proofs::Apart::may_ready, crate::proofs::Apart::may_turn))]
+    #[tactic(auto, using(crate::proofs::Apart::one_brought, crate::proofs::Apart::some_slot, crate::proofs::Apart::may_ready, crate::proofs::Apart::may_turn))]
     pub fn arrive(
         &mut self,
         alloc: Global,
