@@ -1,5 +1,6 @@
 //! The handler of `serve`.
-ghost use Rattle.std.specs.Prelude.{◌≡◌};
+ghost use Rattle.std.specs.Prelude.{◌≡◌, IfOk};
+ghost use Rattle.sw_serve.specs.Following.{following_made};
 
 use std::alloc::Global;
 use sw_base::OutOfMemory;
@@ -35,7 +36,9 @@ impl Handler for Following {
 }
 
 /// A handler of these rules, Echo without rules.
-pub fn follower(script: &Option<Script>) -> Result<Following, OutOfMemory> {
+pub fn follower(script: &Option<Script>) -> Result<Following, OutOfMemory>
+    ensures { IfOk result (λ h. following_made h ≡ script.now) }
+{
     match script {
         None => Ok(Following::Echo(Echo)),
         Some(script) => Ok(Following::Rules(Scripted::new(script.copy()?))),
