@@ -1,15 +1,14 @@
 -- The next of an actor, by the places and by the world.
-use Rattle.std.proofs.Common.{◌≡◌, Bool, true, false, if◌then◌else◌, List, [], refl, ap, ◌∙◌, sym, subst, Option, Some, None}
+use Rattle.std.proofs.Common.{◌≡◌, Bool, true, false, if◌then◌else◌, List, [], refl, ap, ◌∙◌, sym, subst, Some, None}
 use Rattle.sw_step.specs.declared.actor.ActorId.{ActorId}
 use Rattle.sw_record.specs.Terms.{Terms}
 use Rattle.sw_record.specs.Places.{Ran}
-use Rattle.sw_past.specs.Messages.{Message}
 use Rattle.sw_world_ports.specs.Ports.{set_at}
 use Rattle.sw_world_laws.specs.Turns.{Ask, AskTake, AskPush, AskNothing, AskRest, AskFinished, Got, Diary}
 use Rattle.sw_world_laws.specs.Actors.{Actors}
-use Rattle.sw_world_laws.specs.World.{Pending, Waits, Gave, Lost, Core, Outcome, Step, Goes as GoesStep, there, then_next, goes, goes_if, turned, next, MayStep, MayGo, IsTurn}
-use Rattle.sw_world_laws.specs.History.{History, diary_of, LocalBy}
-use Rattle.sw_world_laws.specs.Law.{Holds, Law}
+use Rattle.sw_world_laws.specs.World.{Pending, Waits, Gave, Lost, Core, Outcome, Goes as GoesStep, there, then_next, goes, goes_if, next, MayStep, IsTurn}
+use Rattle.sw_world_laws.specs.History.{diary_of, LocalBy}
+use Rattle.sw_world_laws.specs.Law.{Law}
 use Rattle.sw_world_fits.specs.Board.{number_of}
 use Rattle.sw_world_places.specs.Pipes.{Asking, Getting}
 use Rattle.sw_world_places.specs.Places.{Rows, AtRow, Goes}

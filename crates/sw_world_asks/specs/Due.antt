@@ -5,7 +5,7 @@ use Rattle.sw_record.specs.Terms.{Terms}
 use Rattle.sw_record.specs.Places.{Ran}
 use Rattle.sw_world_ports.specs.Ports.{set_at}
 use Rattle.sw_world_laws.specs.Actors.{Actors}
-use Rattle.sw_world_laws.specs.World.{Pending, Core, Outcome, Step, Goes, turned, next, MayStep}
+use Rattle.sw_world_laws.specs.World.{Pending, Core, Outcome, Goes, turned, next, MayStep}
 use Rattle.sw_world_laws.specs.History.{History, diary_of}
 use Rattle.sw_world_laws.specs.Law.{Holds}
 use Rattle.sw_world_places.specs.Pipes.{Getting}

@@ -20,16 +20,16 @@ use Rattle.sw_port_board.specs.declared.board.BoardStep.TheVariants as steps
 use Rattle.sw_port_board.specs.PlainBoard.{PlainWords, PlainGoes}
 use Rattle.sw_base.specs.declared.counter.Counter.TheVariants as counters
 use Rattle.sw_door.specs.declared.door.Door.{Door}
-use Rattle.sw_door.specs.Door.{IsNew, cause_of, reactor_of as code_reactor_of, Looks, Counts, Hands, Refuses, Claimed, Claims, AcceptsAs, Accepts as CodeAccepts, Ends}
+use Rattle.sw_door.specs.Door.{IsNew, cause_of, reactor_of as code_reactor_of, Looks, Counts, Claimed, AcceptsAs, Accepts as CodeAccepts, Ends}
 use Rattle.sw_record.specs.Words.{AcceptedCount, EndedCount}
 use Rattle.sw_record.specs.Terms.{Terms, reactor_of}
 use Rattle.sw_past.specs.Claims.{Claim, Drew, Full, Spent, drew}
 use Rattle.sw_past.specs.Messages.{FreshMsg, NoMore}
 use Rattle.sw_table_laws.specs.Table.{Shape}
 use Rattle.sw_join.specs.Legal.{LegalFor}
-use Rattle.sw_world_ports.specs.Calls.{Did, Accepts, NoLink, NetOver, SeesStop, Adds}
+use Rattle.sw_world_ports.specs.Calls.{Accepts, NoLink, NetOver, SeesStop, Adds}
 use Rattle.sw_world_ports.specs.Ports.{Ports, behind, claimed, ported, all_ported}
-use Rattle.sw_world_laws.specs.Turns.{Ask, AskPush}
+use Rattle.sw_world_laws.specs.Turns.{AskPush}
 use Rattle.sw_world_fits.specs.Net.{NetStands, AcceptIs, waits_then}
 use Rattle.sw_world_fits.specs.Book.{BookStands, claim_of as answer_of}
 use Rattle.sw_world_fits.specs.Board.{number_of, BoardStands}
@@ -39,11 +39,11 @@ use Rattle.sw_world_fits.proofs.Net.{accept_fits}
 use Rattle.sw_world_places.specs.Pipes.{Asking, Getting}
 use Rattle.sw_world_places.specs.declared.arrived.Claimed.{Claimed as CodeClaimed}
 use Rattle.sw_world_places.specs.declared.arrived.Claimed.TheVariants as links
-use Rattle.sw_world_stands.specs.Asked.{bare_of, ask_of}
+use Rattle.sw_world_stands.specs.Asked.{bare_of}
 use Rattle.sw_world_stands.specs.Links.{claim_of as code_claim}
-use Rattle.sw_world_door.specs.Doors.{DoorState, new_door, DoorGoes, Reads, NotYet, NetEnds, Draws, Refuses as RefusesLink, SaysNext, Finishes}
+use Rattle.sw_world_door.specs.Doors.{DoorState, new_door, Reads, NotYet, NetEnds, Draws, Refuses as RefusesLink, SaysNext, Finishes}
 use Rattle.sw_world_front.specs.Front.{claim_gives, put_gives, PlainGoesOn, PlainTurns, claim_by}
-use Rattle.sw_world_front_fits.specs.Door.{DoorIs, Moves, Stand, FitsBy, GoesFit, TurnFits}
+use Rattle.sw_world_front_fits.specs.Door.{DoorIs, Moves, Stand, GoesFit, TurnFits}
 use Rattle.sw_world_front_fits.proofs.Caps.{Caps, caps_added, adds, accepted}
 
 -- a turn that reads the stop word

@@ -1,5 +1,5 @@
 -- The front's calls are the world's.
-use Rattle.std.proofs.Common.{◌≡◌, ℕ, ◌≤◌, List, [], ◌∷◌, ◌++◌, refl, ap, ◌∙◌, sym, subst, true, false, Option, Some, None}
+use Rattle.std.proofs.Common.{◌≡◌, ℕ, ◌≤◌, List, [], ◌∷◌, ◌++◌, refl, sym, subst, true, false, Option, Some, None}
 use Rattle.sw_lists.specs.Lists.{Each}
 use Rattle.sw_lists.proofs.Lists.{each_append}
 use Rattle.sw_step.specs.declared.actor.ActorId.TheVariants.{Door as TheDoor}
@@ -27,7 +27,7 @@ use Rattle.sw_world_stands.specs.Links.{claim_of, LinksStand}
 use Rattle.sw_world_stands.specs.New.{GotNew}
 use Rattle.sw_world_stands.proofs.Arrivals.{none_stand, comes_stand, keeps_stand, takes_stand, accepts_stand}
 use Rattle.sw_world_door.specs.Doors.{DoorState, new_door}
-use Rattle.sw_world_front_fits.specs.Door.{Moves, Stand, TurnFits}
+use Rattle.sw_world_front_fits.specs.Door.{Moves}
 use Rattle.sw_world_front_fits.specs.Front.{ComesNew, FrontStands, FrontFits}
 use Rattle.sw_world_front_fits.proofs.Caps.{Caps}
 use Rattle.sw_world_front_fits.proofs.Door.{new_stands, turn_fits}
