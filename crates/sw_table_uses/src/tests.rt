@@ -114,6 +114,6 @@ fn a_part_has_a_place(rt: HostRuntime) -> Result<(), Fail> {
     let [first, second] = rows.as_slice() else {
         panic!(rt; "not two rows")
     };
-    assert!(rt; first.key.bytes() == b"Aa" && second.key.bytes() == b"BB");
+    assert!(rt; first.key.bytes() == b"Aa".as_slice() && second.key.bytes() == b"BB".as_slice());
     Ok(())
 }
