@@ -1,11 +1,9 @@
 -- The first link of a session stands at the place that was put first.
 use Rattle.std.proofs.Common.{◌≡◌, ℕ, ◌+◌, ◌<◌, ◌==◌, ◌≢◌, ◌⊎◌, inl, inr, Bool, true, false, cond, if◌then◌else◌, List, [], ◌∷◌, ◌++◌, length, map, Option, Some, None, refl, ap, ◌∙◌, sym, arith}
 use Rattle.std.specs.Prelude.{nat_lt, slice_get}
-use Rattle.std.specs.Ordering.{nat_cmp, is_eq, eq_by_cmp}
+use Rattle.std.specs.Ordering.{nat_cmp, is_eq}
 use Rattle.std.specs.declared.cmp.Ordering.TheVariants.{Less, Equal, Greater}
-use Rattle.std.specs.Cmp.{nat_cmp_total}
-use Rattle.std.specs.FinMap as fin
-use Rattle.std.specs.FinMap.{get-insert, get-empty}
+use Rattle.std.specs.BTreeMap.{is_at}
 use Rattle.std.proofs.lemmas.Bool.{cases_eq}
 use Rattle.std.proofs.lemmas.Bool.Decides.{nat_tests}
 use Rattle.std.proofs.lemmas.List.{map-append}
@@ -17,7 +15,7 @@ use Rattle.sw_conn.specs.declared.conn.Conn.{Conn}
 use Rattle.sw_conn.specs.declared.terms.Terms.{Terms}
 use Rattle.sw_world_laws.specs.Account.{is_session, link_in}
 use Rattle.sw_world_reactor_fits.specs.Plain.{over_of}
-use Rattle.sw_world_account.specs.Firsts.{put_first, firsts_from}
+use Rattle.sw_world_account.specs.Firsts.{first_from}
 use Rattle.sw_world_account.specs.Kept.{live_by, kept_links, conn_session, end_session, kept_sessions}
 
 -- the link at a place, if there is one
@@ -35,18 +33,14 @@ tested : (l e : Bool) → e ≡ false → is_eq (cond l Less (cond e Equal Great
 tested true e h = refl
 tested false e h = ap (λ b. is_eq (cond b Equal Greater)) h
 
-same_as : (q k : ℕ) → eq_by_cmp nat_cmp q k ≡ (k == q)
-same_as q k = elim (cases_eq q k) [
-  | inl e ↦ grind (arith, nat_tests)
-  | inr ne ↦ tested (nat_lt q k) (q == k) (grind (arith, nat_tests)) ∙ sym (grind (arith, nat_tests))
+alike : (l e : Bool) → l ≡ false → e ≡ true → is_eq (cond l Less (cond e Equal Greater)) ≡ true
+alike l e h k = ap (λ b. is_eq (cond b Less (cond e Equal Greater))) h ∙ ap (λ b. is_eq (cond b Equal Greater)) k
+
+pub is_same : (u s : ℕ) → is_at (nat_cmp u) s ≡ (u == s)
+is_same u s = elim (cases_eq u s) [
+  | inl e ↦ alike (nat_lt u s) (u == s) (grind (arith, nat_tests)) (grind (arith, nat_tests)) ∙ sym (grind (arith, nat_tests))
+  | inr ne ↦ tested (nat_lt u s) (u == s) (grind (arith, nat_tests)) ∙ sym (grind (arith, nat_tests))
 ]
-
-put_at : (m : fin.FinMap nat_cmp ℕ) (u at s : ℕ) → fin.get (fin.insert m u at) s ≡ cond (u == s) (Some at) (fin.get m s)
-put_at m u at s = get-insert nat_cmp_total m u at s ∙ ap (λ b. cond b (Some at) (fin.get m s)) (same_as s u)
-
-pub put_finds : (x : Option ℕ) (m : fin.FinMap nat_cmp ℕ) (at s : ℕ) → fin.get (put_first x at m) s ≡ cond (is_session s x) (Some at) (fin.get m s)
-put_finds None m at s = refl
-put_finds (Some u) m at s = put_at m u at s
 
 -- ---- the first link
 
@@ -58,15 +52,14 @@ pick false all l at o q h e = e
 From : List LinkRecord → ℕ → List LinkRecord → Type 0
 From all at ls = (n : ℕ) → slice_get all (at + n) ≡ slice_get ls n
 
-found_from : (ls all : List LinkRecord) (at s : ℕ) → From all at ls → link_in s ls ≡ at_place all (fin.get (firsts_from at (map own ls)) s)
+found_from : (ls all : List LinkRecord) (at s : ℕ) → From all at ls → link_in s ls ≡ at_place all (first_from s at (map own ls))
 found_from [] all at s h = refl
 found_from (l ∷ ls) all at s h =
-    pick (is_session s (own l)) all l at (link_in s ls) (fin.get (firsts_from (at + 1) (map own ls)) s)
+    pick (is_session s (own l)) all l at (link_in s ls) (first_from s (at + 1) (map own ls))
     (ap (slice_get all) (omega arith) ∙ h 0)
     (found_from ls all (at + 1) s (λ n. ap (slice_get all) (omega arith) ∙ h (n + 1)))
-    ∙ ap (at_place all) (sym (put_finds (own l) (firsts_from (at + 1) (map own ls)) at s))
 
-pub found : (ls : List LinkRecord) (s : ℕ) → link_in s ls ≡ at_place ls (fin.get (firsts_from 0 (map own ls)) s)
+pub found : (ls : List LinkRecord) (s : ℕ) → link_in s ls ≡ at_place ls (first_from s 0 (map own ls))
 found ls s = found_from ls ls 0 s (λ n. refl)
 
 -- ---- the sessions of a reactor's links
@@ -86,7 +79,7 @@ sessions_own t conns ends =
     ∙ ap (λ (zs : List (Option ℕ)). map conn_session conns ++ zs) (overs_own ends)
 
 -- the first link of a session among a reactor's
-pub kept_found : (t : Terms) (conns : List (Conn MemoryLink ℕ)) (ends : List (MemoryLink × Ended)) (s : ℕ) → link_in s (kept_links t conns ends) ≡ at_place (kept_links t conns ends) (fin.get (firsts_from 0 (kept_sessions conns ends)) s)
+pub kept_found : (t : Terms) (conns : List (Conn MemoryLink ℕ)) (ends : List (MemoryLink × Ended)) (s : ℕ) → link_in s (kept_links t conns ends) ≡ at_place (kept_links t conns ends) (first_from s 0 (kept_sessions conns ends))
 kept_found t conns ends s =
     found (kept_links t conns ends) s
-    ∙ ap (λ (zs : List (Option ℕ)). at_place (kept_links t conns ends) (fin.get (firsts_from 0 zs) s)) (sessions_own t conns ends)
+    ∙ ap (λ (zs : List (Option ℕ)). at_place (kept_links t conns ends) (first_from s 0 zs)) (sessions_own t conns ends)

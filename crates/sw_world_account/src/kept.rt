@@ -1,14 +1,14 @@
 //! The links of one reactor, as the record shows them.
-ghost use Rattle.std.specs.Prelude.{◌≡◌, ◌<◌, ◌++◌, length, map, slice_get, Some, IfOk, OnOk};
-ghost use Rattle.sw_world_laws.specs.Account.{link_in, link_or_by};
+ghost use Rattle.std.specs.Prelude.{◌≡◌, ℕ, ◌<◌, ◌++◌, length, map, slice_get, Some, IfOk, OnOk};
+ghost use Rattle.sw_world_laws.specs.Account.{link_in};
 ghost use Rattle.sw_world_reactor_fits.specs.Plain.{over_of};
-ghost use Rattle.sw_world_account.specs.Firsts.{firsts_from};
+ghost use Rattle.sw_world_account.specs.Firsts.{finds, first_from};
 ghost use Rattle.sw_world_account.specs.Kept.{live_by, kept_links, conn_session, end_session, kept_sessions};
 
 use crate::firsts::Firsts;
 use std::alloc::Global;
 use sw_base::{OutOfMemory, Session};
-use sw_data::{Cause, Ended};
+use sw_data::Cause;
 use sw_link::MemoryLink;
 use sw_port_book::PlainTicket;
 use sw_reactor::Reactor;
@@ -22,7 +22,7 @@ pub struct Kept<'a> {
     pub ends: &'a Roomy,
     pub firsts: Firsts,
     ghost slots: { 0 < reactor.now.terms.max_conn },
-    ghost places: { firsts ≡ firsts_from 0 (kept_sessions reactor.now.line.conns ends.now.kept) },
+    ghost places: { (s : ℕ) → finds firsts s ≡ first_from s 0 (kept_sessions reactor.now.line.conns ends.now.kept) },
 }
 
 impl<'a> Kept<'a> {
@@ -72,11 +72,10 @@ fn live_at(reactor: &Reactor<MemoryLink, PlainTicket>, at: usize) -> Result<Link
     requires slots { 0 < reactor.now.terms.max_conn }
     ensures { IfOk result (λ l. slice_get (map (live_by reactor.now.terms) reactor.now.line.conns) at ≡ Some l) }
 {
-    let ended = Ended {
-        cause: Cause::PeerEnd,
-        ..reactor.ended(at)
-    };
-    shown(reactor.link(at), ended.ip, LinkState::Live(ended))
+    let mut ended = reactor.ended(at);
+    ended.cause = Cause::PeerEnd;
+    let ip = ended.ip;
+    shown(reactor.link(at), ip, LinkState::Live(ended))
 }
 
 fn over_at(ends: &Roomy, at: usize) -> Result<LinkRecord, OutOfMemory>
@@ -84,7 +83,9 @@ fn over_at(ends: &Roomy, at: usize) -> Result<LinkRecord, OutOfMemory>
     ensures { IfOk result (λ l. slice_get (map over_of ends.now.kept) at ≡ Some l) }
 {
     let (link, ended) = &ends.kept()[at];
-    shown(link, ended.ip, LinkState::Over(*ended))
+    let ended = *ended;
+    let ip = ended.ip;
+    shown(link, ip, LinkState::Over(ended))
 }
 
 fn shown(link: &MemoryLink, ip: u32, state: LinkState) -> Result<LinkRecord, OutOfMemory>
