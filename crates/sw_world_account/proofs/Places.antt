@@ -1,6 +1,6 @@
 -- The first link of a session stands at the place that was put first.
-use Rattle.std.proofs.Common.{◌≡◌, ℕ, ◌+◌, ◌<◌, ◌==◌, ◌≢◌, ◌⊎◌, inl, inr, Bool, true, false, cond, if◌then◌else◌, List, [], ◌∷◌, ◌++◌, length, map, Option, Some, None, refl, ap, ◌∙◌, sym, arith}
-use Rattle.std.specs.Prelude.{nat_lt, slice_get}
+use Rattle.std.proofs.Common.{◌≡◌, ℕ, ◌+◌, ◌<◌, ◌==◌, ◌≢◌, ◌⊎◌, inl, inr, Bool, true, false, cond, if◌then◌else◌, List, [], ◌∷◌, ◌++◌, length, map, Option, Some, None, refl, ap, ◌∙◌, sym, arith, suc, absurd, true≢false, add-one}
+use Rattle.std.specs.Prelude.{nat_lt, slice_get, is_some, unwrap_or}
 use Rattle.std.specs.Ordering.{nat_cmp, is_eq}
 use Rattle.std.specs.declared.cmp.Ordering.TheVariants.{Less, Equal, Greater}
 use Rattle.std.specs.BTreeMap.{is_at}
@@ -49,7 +49,7 @@ pick true all l at o q h e = sym h
 pick false all l at o q h e = e
 
 -- the list stands in another from this place on
-From : List LinkRecord → ℕ → List LinkRecord → Type 0
+abbrev From : List LinkRecord → ℕ → List LinkRecord → Type 0
 From all at ls = (n : ℕ) → slice_get all (at + n) ≡ slice_get ls n
 
 found_from : (ls all : List LinkRecord) (at s : ℕ) → From all at ls → link_in s ls ≡ at_place all (first_from s at (map own ls))
@@ -57,7 +57,7 @@ found_from [] all at s h = refl
 found_from (l ∷ ls) all at s h =
     pick (is_session s (own l)) all l at (link_in s ls) (first_from s (at + 1) (map own ls))
     (ap (slice_get all) (omega arith) ∙ h 0)
-    (found_from ls all (at + 1) s (λ n. ap (slice_get all) (omega arith) ∙ h (n + 1)))
+    (found_from ls all (at + 1) s (λ n. ap (slice_get all) (omega arith) ∙ h (suc n)))
 
 pub found : (ls : List LinkRecord) (s : ℕ) → link_in s ls ≡ at_place ls (first_from s 0 (map own ls))
 found ls s = found_from ls ls 0 s (λ n. refl)
@@ -83,3 +83,33 @@ pub kept_found : (t : Terms) (conns : List (Conn MemoryLink ℕ)) (ends : List (
 kept_found t conns ends s =
     found (kept_links t conns ends) s
     ∙ ap (λ (zs : List (Option ℕ)). at_place (kept_links t conns ends) (first_from s 0 zs)) (sessions_own t conns ends)
+
+-- ---- the place stands within
+
+step_within : (b : Bool) (at k n : ℕ) (o : Option ℕ) → (o ≡ Some k → k < (at + 1) + n) → cond b (Some at) o ≡ Some k → k < at + (n + 1)
+step_within true at k n o f e = let same : at ≡ k = ap (λ (q : Option ℕ). unwrap_or q at) e in omega arith
+step_within false at k n o f e = let h : k < (at + 1) + n = f e in omega arith
+
+within : (xs : List (Option ℕ)) (s at k : ℕ) → first_from s at xs ≡ Some k → k < at + length xs
+within [] s at k e = absurd (true≢false (sym (ap is_some e)))
+within (x ∷ xs) s at k e =
+    let h : k < at + (length xs + 1) = step_within (is_session s x) at k (length xs) (first_from s (at + 1) xs) (λ q. within xs s (at + 1) k q) e in
+    rw add-one at h
+
+same_length : (ls : List LinkRecord) → length (map own ls) ≡ length ls
+same_length [] = refl
+same_length (l ∷ ls) = ap suc (same_length ls)
+
+pub stands_within : (t : Terms) (conns : List (Conn MemoryLink ℕ)) (ends : List (MemoryLink × Ended)) (s at : ℕ) → first_from s 0 (kept_sessions conns ends) ≡ Some at → at < length (kept_links t conns ends)
+stands_within t conns ends s at e =
+    let own_at : first_from s 0 (map own (kept_links t conns ends)) ≡ Some at = ap (λ (zs : List (Option ℕ)). first_from s 0 zs) (sessions_own t conns ends) ∙ e in
+    let h : at < 0 + length (map own (kept_links t conns ends)) = within (map own (kept_links t conns ends)) s 0 at own_at in
+    let same : length (map own (kept_links t conns ends)) ≡ length (kept_links t conns ends) = same_length (kept_links t conns ends) in
+    omega arith
+
+-- what is found there, and where nothing is
+pub found_there : (t : Terms) (conns : List (Conn MemoryLink ℕ)) (ends : List (MemoryLink × Ended)) (s at : ℕ) → first_from s 0 (kept_sessions conns ends) ≡ Some at → slice_get (kept_links t conns ends) at ≡ link_in s (kept_links t conns ends)
+found_there t conns ends s at e = sym (kept_found t conns ends s ∙ ap (at_place (kept_links t conns ends)) e)
+
+pub found_none : (t : Terms) (conns : List (Conn MemoryLink ℕ)) (ends : List (MemoryLink × Ended)) (s : ℕ) → first_from s 0 (kept_sessions conns ends) ≡ None → None ≡ link_in s (kept_links t conns ends)
+found_none t conns ends s e = sym (kept_found t conns ends s ∙ ap (at_place (kept_links t conns ends)) e)

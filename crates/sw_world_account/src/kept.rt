@@ -8,7 +8,7 @@ ghost use Rattle.sw_world_account.specs.Kept.{live_by, kept_links, conn_session,
 use crate::firsts::Firsts;
 use std::alloc::Global;
 use sw_base::{OutOfMemory, Session};
-use sw_data::Cause;
+use sw_data::{Cause, Ended};
 use sw_link::MemoryLink;
 use sw_port_book::PlainTicket;
 use sw_reactor::Reactor;
@@ -82,7 +82,13 @@ fn over_at(ends: &Roomy, at: usize) -> Result<LinkRecord, OutOfMemory>
     requires { at < length ends.now.kept }
     ensures { IfOk result (λ l. slice_get (map over_of ends.now.kept) at ≡ Some l) }
 {
-    let (link, ended) = &ends.kept()[at];
+    over(&ends.kept()[at])
+}
+
+fn over(end: &(MemoryLink, Ended)) -> Result<LinkRecord, OutOfMemory>
+    ensures { IfOk result (λ l. l ≡ over_of end.now) }
+{
+    let (link, ended) = end;
     let ended = *ended;
     let ip = ended.ip;
     shown(link, ip, LinkState::Over(ended))
@@ -121,9 +127,17 @@ fn lives(
     ensures { OnOk result (sessions.new.items ≡ sessions.old.items ++ map conn_session reactor.now.line.conns) }
 {
     for at in 0..reactor.count() {
-        sessions.push(reactor.ended(at).session)?;
+        sessions.push(session_at(reactor, at))?;
     }
     Ok(())
+}
+
+fn session_at(reactor: &Reactor<MemoryLink, PlainTicket>, at: usize) -> Option<Session>
+    requires at { at < length reactor.now.line.conns }
+    requires slots { 0 < reactor.now.terms.max_conn }
+    ensures { slice_get (map conn_session reactor.now.line.conns) at ≡ Some result }
+{
+    reactor.ended(at).session
 }
 
 fn overs(ends: &Roomy, sessions: &mut Vec<Option<Session>>) -> Result<(), OutOfMemory>
