@@ -91,9 +91,10 @@ impl Play {
     }
 
     fn put_put(&mut self, out: &mut String) -> Result<(), OutOfMemory> {
-        if let Some((_, ended)) = self.ends.put.take() {
+        let put = self.ends.put.take();
+        if let Some(pair) = &put {
             out.push_str("  put")?;
-            put_ended(out, &ended, "")?;
+            put_ended(out, &pair.1, "")?;
         }
         Ok(())
     }
