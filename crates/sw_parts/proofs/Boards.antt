@@ -9,8 +9,11 @@ one : {X : Type 0} (P : X → Type 0) (x : X) → P x → All P (x ∷ [])
 one P x p zero d lt = p
 one P x p (suc k) d lt = absurd (omega arith)
 
+none : {X : Type 0} (P : X → Type 0) → All P []
+none P k d lt = absurd (omega arith)
+
 pub of_board : (b : BoardId) (n : ℕ) → All (λ (s : SeatNow). s.board ≡ b) (fresh_seats b n)
-of_board b zero k d lt = absurd (omega arith)
+of_board b zero = none (λ (s : SeatNow). s.board ≡ b)
 of_board b (suc n) = All-append (λ (s : SeatNow). s.board ≡ b) (fresh_seats b n) (seat_now b n [] ∷ []) (of_board b n) (one (λ (s : SeatNow). s.board ≡ b) (seat_now b n []) refl)
 
 first_of : (b : BoardId) (xs : List SeatNow) (s : SeatNow) → All (λ (t : SeatNow). t.board ≡ b) xs → s.board ≡ b → board_of (xs ++ s ∷ []) ≡ b
@@ -22,7 +25,7 @@ board_is b zero some = absurd (omega (arith, some))
 board_is b (suc n) some = first_of b (fresh_seats b n) (seat_now b n []) (of_board b n) refl
 
 pub of_fresh : (sizes : Sizes) (ss : List SeatNow) → 0 < sizes.actors → AreFresh sizes ss → IsBoardOf sizes.workers sizes.taskers ss
-of_fresh sizes ss some (b, (same, are)) =
+of_fresh sizes ss some (b, same, are) =
     let is : board_of ss ≡ b = ap board_of are ∙ board_is b sizes.actors some in (
       subst (λ z. All (λ (s : SeatNow). s.board ≡ z) ss) (sym is) (subst (All (λ (s : SeatNow). s.board ≡ b)) (sym are) (of_board b sizes.actors)),
       ap (λ (z : BoardId). z.sizes.workers) is ∙ ap (λ (z : Sizes). z.workers) same,
