@@ -24,10 +24,14 @@ pub board_is : (b : BoardId) (n : ℕ) → 0 < n → board_of (fresh_seats b n) 
 board_is b zero some = absurd (omega (arith, some))
 board_is b (suc n) some = first_of b (fresh_seats b n) (seat_now b n []) (of_board b n) refl
 
-pub of_fresh : (sizes : Sizes) (ss : List SeatNow) → 0 < sizes.actors → AreFresh sizes ss → IsBoardOf sizes.workers sizes.taskers ss
+of_fresh : (sizes : Sizes) (ss : List SeatNow) → 0 < sizes.actors → AreFresh sizes ss → IsBoardOf sizes.workers sizes.taskers ss
 of_fresh sizes ss some (b, same, are) =
     let is : board_of ss ≡ b = ap board_of are ∙ board_is b sizes.actors some in (
       subst (λ z. All (λ (s : SeatNow). s.board ≡ z) ss) (sym is) (subst (All (λ (s : SeatNow). s.board ≡ b)) (sym are) (of_board b sizes.actors)),
       ap (λ (z : BoardId). z.sizes.workers) is ∙ ap (λ (z : Sizes). z.workers) same,
       ap (λ (z : BoardId). z.sizes.taskers) is ∙ ap (λ (z : Sizes). z.taskers) same,
     )
+
+pub board_made : (w t a v u : ℕ) (ss : List SeatNow) → w ≡ v → t ≡ u → 0 < a → AreFresh (record { workers = w; taskers = t; actors = a }) ss → IsBoardOf v u ss
+board_made w t a v u ss same also some fresh =
+    let made = of_fresh (record { workers = w; taskers = t; actors = a }) ss some fresh in (made.0, made.1 ∙ same, made.2 ∙ also)

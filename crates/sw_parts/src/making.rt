@@ -11,14 +11,14 @@ use sw_base::OutOfMemory;
 use sw_settings::Settings;
 
 /// The seats of the board of all actors.
-#[tactic(auto, using(crate::proofs::Boards::of_fresh))]
 pub fn make_board(alloc: Global, settings: &Settings) -> Result<Vec<sw_board::Seat>, OutOfMemory>
     ensures { IfOk result (λ seats. IsBoardOf settings.now.worker_num settings.now.task_worker_num seats.items) }
 {
     let workers = settings.worker_num();
     let taskers = settings.task_worker_num();
     let actors = workers + taskers + settings.reactor_num() + 1;
-    sw_board::make(alloc, workers, taskers, actors)
+    let seats = sw_board::make(alloc, workers, taskers, actors)?;
+    Ok(seats)
 }
 
 /// The Table, the hands that make its seats, and a first seat.
