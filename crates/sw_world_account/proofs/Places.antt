@@ -1,12 +1,15 @@
 -- The first link of a session stands at the place that was put first.
-use Rattle.std.proofs.Common.{◌≡◌, ℕ, ◌+◌, ◌<◌, ◌==◌, ◌≢◌, ◌⊎◌, inl, inr, Bool, true, false, cond, if◌then◌else◌, List, [], ◌∷◌, ◌++◌, length, map, Option, Some, None, refl, ap, ◌∙◌, sym, arith, suc, absurd, true≢false, add-one}
-use Rattle.std.specs.Prelude.{nat_lt, slice_get, is_some, unwrap_or}
+use Rattle.std.proofs.Common.{◌≡◌, ℕ, ◌+◌, ◌<◌, ◌==◌, ◌≢◌, ◌⊎◌, inl, inr, Bool, true, false, cond, if◌then◌else◌, List, [], ◌∷◌, ◌++◌, length, map, take, Option, Some, None, refl, ap, ◌∙◌, sym, arith, suc, absurd, true≢false, add-one}
+use Rattle.std.specs.Prelude.{nat_lt, slice_get, is_some, unwrap_or, option_map, Result, Ok, Err, IfOk}
+use Rattle.std.specs.List.{get_or}
+use Rattle.sw_base.specs.declared.out_of_memory.OutOfMemory.{OutOfMemory}
 use Rattle.std.specs.Ordering.{nat_cmp, is_eq}
 use Rattle.std.specs.declared.cmp.Ordering.TheVariants.{Less, Equal, Greater}
 use Rattle.std.specs.BTreeMap.{is_at}
 use Rattle.std.proofs.lemmas.Bool.{cases_eq}
 use Rattle.std.proofs.lemmas.Bool.Decides.{nat_tests}
-use Rattle.std.proofs.lemmas.List.{map-append}
+use Rattle.std.proofs.lemmas.List.{map-append, take_more}
+use Rattle.std.proofs.lemmas.Option.{slice_get_within, get_or_from_slice_get, slice_get-map, slice_get-get_or}
 use Rattle.sw_data.specs.declared.ended.Ended.{Ended}
 use Rattle.sw_link.specs.declared.memory_link.MemoryLink.{MemoryLink}
 use Rattle.sw_record.specs.declared.record.LinkRecord.{LinkRecord}
@@ -15,7 +18,7 @@ use Rattle.sw_conn.specs.declared.conn.Conn.{Conn}
 use Rattle.sw_conn.specs.declared.terms.Terms.{Terms}
 use Rattle.sw_world_laws.specs.Account.{is_session, link_in}
 use Rattle.sw_world_reactor_fits.specs.Plain.{over_of}
-use Rattle.sw_world_account.specs.Firsts.{first_from}
+use Rattle.sw_world_account.specs.Firsts.{first_from, put_first}
 use Rattle.sw_world_account.specs.Kept.{live_by, kept_links, conn_session, end_session, kept_sessions}
 
 -- the link at a place, if there is one
@@ -42,6 +45,10 @@ is_same u s = elim (cases_eq u s) [
   | inr ne ↦ tested (nat_lt u s) (u == s) (grind (arith, nat_tests)) ∙ sym (grind (arith, nat_tests))
 ]
 
+-- what a map has once a place was put
+pub put_is : (x : Option ℕ) (u k at s : ℕ) (o r : Option ℕ) → r ≡ cond (is_at (nat_cmp k) s) (Some at) o → k ≡ u → x ≡ Some u → r ≡ put_first x at s o
+put_is x u k at s o r e same is = e ∙ ap (λ b. cond b (Some at) o) (is_same k s ∙ ap (λ n. n == s) same) ∙ ap (λ y. put_first y at s o) (sym is)
+
 -- ---- the first link
 
 pick : (b : Bool) (all : List LinkRecord) (l : LinkRecord) (at : ℕ) (o : Option LinkRecord) (q : Option ℕ) → slice_get all at ≡ Some l → o ≡ at_place all q → cond b (Some l) o ≡ at_place all (cond b (Some at) q)
@@ -60,7 +67,7 @@ found_from (l ∷ ls) all at s h =
     (found_from ls all (at + 1) s (λ n. ap (slice_get all) (omega arith) ∙ h (suc n)))
 
 pub found : (ls : List LinkRecord) (s : ℕ) → link_in s ls ≡ at_place ls (first_from s 0 (map own ls))
-found ls s = found_from ls ls 0 s (λ n. refl)
+found ls s = found_from ls ls 0 s (λ n. ap (slice_get ls) (omega arith))
 
 -- ---- the sessions of a reactor's links
 
@@ -113,3 +120,20 @@ found_there t conns ends s at e = sym (kept_found t conns ends s ∙ ap (at_plac
 
 pub found_none : (t : Terms) (conns : List (Conn MemoryLink ℕ)) (ends : List (MemoryLink × Ended)) (s : ℕ) → first_from s 0 (kept_sessions conns ends) ≡ None → None ≡ link_in s (kept_links t conns ends)
 found_none t conns ends s e = sym (kept_found t conns ends s ∙ ap (at_place (kept_links t conns ends)) e)
+
+-- ---- loops
+
+pub passed : {A : Type 0} (xs : List A) (i : ℕ) (x : A) → slice_get xs i ≡ Some x → take (i + 1) xs ≡ take i xs ++ x ∷ []
+passed xs i x e = take_more xs i x (slice_get_within xs i x e) ∙ ap (λ y. take i xs ++ y ∷ []) (get_or_from_slice_get xs i x x e)
+
+pub one_more : {A : Type 0} (front so new xs : List A) (i : ℕ) (x : A) → new ≡ so ++ x ∷ [] → so ≡ front ++ take i xs → slice_get xs i ≡ Some x → new ≡ front ++ take (i + 1) xs
+one_more {A} front so new xs i x e h is =
+    e ∙ ap (λ (zs : List A). zs ++ x ∷ []) h ∙ append_assoc front (take i xs) (x ∷ [])
+    ∙ ap (λ (zs : List A). front ++ zs) (sym (passed xs i x is))
+
+pub over_there : (ends ks : List (MemoryLink × Ended)) (at : ℕ) (x : MemoryLink × Ended) (r : Result LinkRecord OutOfMemory) → at < length ends → ks ≡ ends → x ≡ get_or ks at x → IfOk r (λ l. l ≡ over_of x) → IfOk r (λ l. slice_get (map over_of ends) at ≡ Some l)
+over_there ends ks at x (Ok l) lt same is e =
+    slice_get-map over_of ends at
+    ∙ ap (option_map over_of) (slice_get-get_or ends at x lt ∙ ap Some (sym (is ∙ ap (λ (zs : List (MemoryLink × Ended)). get_or zs at x) same)))
+    ∙ ap Some (sym e)
+over_there ends ks at x (Err f) lt same is e = e

@@ -1,7 +1,6 @@
-use Rattle.std.proofs.Common.{cond, Some, ap, ◌∙◌}
 use Rattle.sw_world_account.specs.Firsts.{finds}
-use Rattle.sw_world_account.proofs.Places.{is_same}
+use Rattle.sw_world_account.proofs.Places.{put_is}
 use Rattle.sw_world_account.proofs.firsts.Firsts.put.Goals as goal
 
 pub returns-in_ok-insert-in-Some : goal.returns-in_ok-insert-in-Some
-returns-in_ok-insert-in-Some c = λ s. ? ∙ ap (λ b. cond b (Some c.args.at) (finds c.args.self.now s)) (is_same ? s)
+returns-in_ok-insert-in-Some c = λ s. put_is c.args.session c.in-Some.session c.number.result c.args.at s (finds c.args.self.now s) _ (c.in_ok-insert-in-Some.ensures.updates.0 s) c.number.ensures.value c.in-Some.is
