@@ -39,27 +39,27 @@ module _ {L K : Type 0} where
   same_by : (r q x : Reactor L K) → q ≡ x → x.terms ≡ r.terms → Same r q
   same_by r q x e f = ap (λ (z : Reactor L K). z.terms) e ∙ f
 
-  on_line : (P : Lined L K → Lined L K → Type 0) (r q : Reactor L K) → OnLine r P q → Same r q
-  on_line P r q h = same_by r q (record r { line = q.line }) h.1 refl
+  on_line : (r q : Reactor L K) → q ≡ record r { line = q.line } → Same r q
+  on_line r q e = same_by r q (record r { line = q.line }) e refl
 
   message : (number : K → ℕ) (r : Reactor L K) (m : Msg L K) (q : Reactor L K) → SettlesMsg number r m q → Same r q
-  message number r (msgs.Fresh link ip ticket) q h = on_line _ r q h
-  message number r (msgs.Send s b) q h = on_line _ r q h
-  message number r (msgs.Close s) q h = on_line _ r q h
-  message number r (msgs.Reset s) q h = on_line _ r q h
-  message number r (msgs.Bye s) q h = on_line _ r q h
+  message number r (msgs.Fresh link ip ticket) q h = on_line r q h.1
+  message number r (msgs.Send s b) q h = on_line r q h.1
+  message number r (msgs.Close s) q h = on_line r q h.1
+  message number r (msgs.Reset s) q h = on_line r q h.1
+  message number r (msgs.Bye s) q h = on_line r q h.1
   message number r (msgs.Event e) q h = same_by r q r h refl
   message number r (msgs.Over id) q h = same_by r q r h refl
   message number r msgs.NoMore q h = same_by r q _ h refl
 
   pushed : (r : Reactor L K) (a : Asked) (q : Reactor L K) → SettlesPush r a q → Same r q
-  pushed r (asks.Event w s kind) q h = on_line _ r q h
+  pushed r (asks.Event w s kind) q h = on_line r q h.1
   pushed r asks.NoMore q h = same_by r q _ h refl
   pushed r asks.Nothing q h = same_by r q r h refl
   pushed r asks.Take q h = same_by r q r h refl
 
   back : (r : Reactor L K) (a : Asked) (e : Event) (q : Reactor L K) → SettlesEvent r a e q → Same r q
-  back r (asks.Event w s kind) e q h = on_line _ r q h
+  back r (asks.Event w s kind) e q h = on_line r q h.1
   back r asks.NoMore e q h = same_by r q r h refl
   back r asks.Nothing e q h = same_by r q r h refl
   back r asks.Take e q h = same_by r q r h refl
@@ -97,12 +97,13 @@ module _ {L K : Type 0} where
   counted_same kinds.Closed r = refl
   counted_same kinds.Other r = refl
 
-  module _ {B C E : Type 0} where
+  module _ {B C : Type 0} where
     aimed : (looks : B → ℕ → Word → B → Type 0) (goes : C → List BoardStep → C → Type 0) (sizes : C → Sizes) (r : Reactor L K) (b : B) (o : C) (w : ℕ) (q : Reactor L K) (d : B) (u : C) → Aims looks goes sizes r b o w q d u → Same r q
     aimed looks goes sizes r b o w q d u h =
         by_bool (keeps r.terms.mode) _ _ (Same r q) (λ k. same_by r q r k.1 refl)
         (λ m. by_bool (r.terms.mode == 5) _ _ (Same r q) (λ k. same_by r q (record r { line = q.line }) k.0.1.2 refl) (λ k. same_by r q r k.1 refl) m) h
 
+  module _ {B C E : Type 0} where
     step_same : (p : Ports L K B C E) (s : Step) (wrote : Option LinkWrite) (r : Reactor L K) (b : B) (o : C) (f : E) (a : Asks L K) (q : Reactor L K) (d : B) (u : C) (g : E) → Steps p s wrote r b o f a q d u g → Same r q
     step_same p (chosen.Again w e) wrote r b o f a q d u g h = same_by r q _ h.0.1 refl
     step_same p (chosen.Tell e) wrote r b o f a q d u g ((w, (m, (aims, pushes))), same) =

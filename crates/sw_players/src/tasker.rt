@@ -86,6 +86,11 @@ impl<L, J: Naming, T> Model for TaskerPlayer<L, J, T> {
 
     ghost Value = { Tasking L J T };
 
+    ghost use Rattle.std.specs.Coded.{codes};
+    ghost use Rattle.std.specs.FinMap.{code};
+
+    ghost coded = { Prim.hlevel (codes, code) };
+
     ghost view = { λ p. p.inner };
 
     ghost invariant = { λ p. IsAtHand J.board.sizes J.table.columns p.inner.tasker };

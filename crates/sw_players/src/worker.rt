@@ -88,6 +88,11 @@ impl<L, J: Naming, H> Model for WorkerPlayer<L, J, H> {
 
     ghost Value = { Working L J H };
 
+    ghost use Rattle.std.specs.Coded.{codes};
+    ghost use Rattle.std.specs.FinMap.{code};
+
+    ghost coded = { Prim.hlevel (codes, code) };
+
     ghost view = { λ p. p.inner };
 
     ghost invariant = { λ p. IsAtHand J.board.sizes J.table.columns p.inner.worker };
