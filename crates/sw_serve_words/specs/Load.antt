@@ -44,6 +44,10 @@ load_more (name ∷ value ∷ rest) (Some w) = load_more rest (with_load w name 
 abbrev pub load_words : List (List ℕ) → LoadWords → Option LoadWords
 load_words ws w = load_more ws (Some w)
 
+-- the same behind an option's name
+abbrev pub load_named : List ℕ → List (List ℕ) → LoadWords → Option LoadWords
+load_named name ws w = load_more (name ∷ ws) (Some w)
+
 -- the plan of three numbers, where all are there
 abbrev pub plan_of : Option ℕ → Option ℕ → Option ℕ → Option Plan
 plan_of None connections packets = None

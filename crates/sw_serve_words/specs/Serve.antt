@@ -40,3 +40,7 @@ serve_more (name ∷ value ∷ rest) (Some w) = serve_more rest (with_serve w na
 
 abbrev pub serve_words : List (List ℕ) → ServeWords → Option ServeWords
 serve_words ws w = serve_more ws (Some w)
+
+-- the same behind an option's name
+abbrev pub serve_named : List ℕ → List (List ℕ) → ServeWords → Option ServeWords
+serve_named name ws w = serve_more (name ∷ ws) (Some w)

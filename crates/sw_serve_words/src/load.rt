@@ -1,6 +1,6 @@
 //! The words behind `load`.
 ghost use Rattle.std.specs.Prelude.{◌≡◌, map, string_bytes};
-ghost use Rattle.sw_serve_words.specs.Load.{seed_named, connections_named, packets_named, with_load, load_words, plan_of};
+ghost use Rattle.sw_serve_words.specs.Load.{seed_named, connections_named, packets_named, with_load, load_named, load_words, plan_of};
 
 use crate::once::unset;
 use sw_load::Plan;
@@ -80,19 +80,28 @@ fn with_load(words: LoadWords, name: &[u8], value: &[u8]) -> Option<LoadWords>
     }
 }
 
+/// These words with the option of this name, and what the others say, of which the first is its value.
+#[cycle(load_words)]
+fn load_named(words: LoadWords, name: &[u8], others: &[String]) -> Option<LoadWords>
+    ensures { result ≡ load_named name.now (map string_bytes others.now) words }
+{
+    match others {
+        [] => None,
+        [value, rest @ ..] => match with_load(words, name, value.as_bytes()) {
+            None => None,
+            Some(words) => load_from(words, rest),
+        },
+    }
+}
+
 /// These words, and what the others say.
+#[cycle(load_words)]
 fn load_from(words: LoadWords, others: &[String]) -> Option<LoadWords>
     ensures { result ≡ load_words (map string_bytes others.now) words }
 {
     match others {
         [] => Some(words),
-        [_] => None,
-        [name, value, rest @ ..] => {
-            match with_load(words, name.as_bytes(), value.as_bytes()) {
-                None => None,
-                Some(words) => load_from(words, rest),
-            }
-        }
+        [name, rest @ ..] => load_named(words, name.as_bytes(), rest),
     }
 }
 

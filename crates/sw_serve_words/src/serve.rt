@@ -1,6 +1,6 @@
 //! The words behind `serve`.
 ghost use Rattle.std.specs.Prelude.{◌≡◌, map, string_bytes};
-ghost use Rattle.sw_serve_words.specs.Serve.{port_named, with_port, accept_named, with_serve, serve_words};
+ghost use Rattle.sw_serve_words.specs.Serve.{port_named, with_port, accept_named, with_serve, serve_named, serve_words};
 ghost use Rattle.sw_text.specs.Numbers.{number_within};
 
 use crate::once::unset;
@@ -77,19 +77,28 @@ fn with_serve(words: ServeWords, name: &[u8], value: &[u8]) -> Option<ServeWords
     }
 }
 
+/// These words with the option of this name, and what the others say, of which the first is its value.
+#[cycle(serve_words)]
+fn serve_named(words: ServeWords, name: &[u8], others: &[String]) -> Option<ServeWords>
+    ensures { result ≡ serve_named name.now (map string_bytes others.now) words }
+{
+    match others {
+        [] => None,
+        [value, rest @ ..] => match with_serve(words, name, value.as_bytes()) {
+            None => None,
+            Some(words) => serve_from(words, rest),
+        },
+    }
+}
+
 /// These words, and what the others say.
+#[cycle(serve_words)]
 fn serve_from(words: ServeWords, others: &[String]) -> Option<ServeWords>
     ensures { result ≡ serve_words (map string_bytes others.now) words }
 {
     match others {
         [] => Some(words),
-        [_] => None,
-        [name, value, rest @ ..] => {
-            match with_serve(words, name.as_bytes(), value.as_bytes()) {
-                None => None,
-                Some(words) => serve_from(words, rest),
-            }
-        }
+        [name, rest @ ..] => serve_named(words, name.as_bytes(), rest),
     }
 }
 
