@@ -29,7 +29,9 @@ abbrev pub body : Pair → List ℕ
 body p = p.0 ++ 61 ∷ value_text p.1
 
 pair_is : (p : Pair) → IsPair p → pair_text p ≡ 32 ∷ body p
-pair_is p is = rw (name_plain p.0 is.0) (simp append_assoc)
+pair_is p is =
+    ap (λ (t : List ℕ). codes " " ++ t ++ codes "=" ++ value_text p.1) (name_plain p.0 is.0)
+    ∙ ap (λ (t : List ℕ). 32 ∷ t) (append_assoc p.0 (codes "=") (value_text p.1))
 
 body_plain : (name : List ℕ) (v : Value) → IsPair (name, v) → Without 32 (name ++ 61 ∷ value_text v)
 body_plain name v is =

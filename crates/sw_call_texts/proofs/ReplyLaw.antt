@@ -97,13 +97,13 @@ only_is text q r same is e = subst (λ (x : Replied). IsSpelled text x) same (is
 
 word_by : (a b c d f g h : Bool) (word : List ℕ) (r : Replied) → bytes_eq word (codes "stored") ≡ a → bytes_eq word (codes "full") ≡ b → bytes_eq word (codes "row") ≡ c → bytes_eq word (codes "missing") ≡ d → bytes_eq word (codes "yes") ≡ f → bytes_eq word (codes "no") ≡ g → bytes_eq word (codes "range") ≡ h
     → cond a (Some (only replies.Stored)) (cond b (Some (only replies.Full)) (cond c (Some (only replies.Found)) (cond d (Some (only replies.Missing)) (cond f (Some (only replies.Yes)) (cond g (Some (only replies.No)) (cond h (Some (only replies.Range)) None)))))) ≡ Some r → IsSpelled word r
-word_by true b c d f g h word r s1 s2 s3 s4 s5 s6 s7 e = only_is word replies.Stored r cc refl (equal word (codes "stored") s1)
-word_by false true c d f g h word r s1 s2 s3 s4 s5 s6 s7 e = only_is word replies.Full r cc refl (equal word (codes "full") s2)
-word_by false false true d f g h word r s1 s2 s3 s4 s5 s6 s7 e = only_is word replies.Found r cc tt (equal word (codes "row") s3)
-word_by false false false true f g h word r s1 s2 s3 s4 s5 s6 s7 e = only_is word replies.Missing r cc refl (equal word (codes "missing") s4)
-word_by false false false false true g h word r s1 s2 s3 s4 s5 s6 s7 e = only_is word replies.Yes r cc refl (equal word (codes "yes") s5)
-word_by false false false false false true h word r s1 s2 s3 s4 s5 s6 s7 e = only_is word replies.No r cc refl (equal word (codes "no") s6)
-word_by false false false false false false true word r s1 s2 s3 s4 s5 s6 s7 e = only_is word replies.Range r cc refl (equal word (codes "range") s7)
+word_by true b c d f g h word r s1 s2 s3 s4 s5 s6 s7 e = let same : only replies.Stored ≡ r = cc in only_is word replies.Stored r same refl (equal word (codes "stored") s1)
+word_by false true c d f g h word r s1 s2 s3 s4 s5 s6 s7 e = let same : only replies.Full ≡ r = cc in only_is word replies.Full r same refl (equal word (codes "full") s2)
+word_by false false true d f g h word r s1 s2 s3 s4 s5 s6 s7 e = let same : only replies.Found ≡ r = cc in only_is word replies.Found r same tt (equal word (codes "row") s3)
+word_by false false false true f g h word r s1 s2 s3 s4 s5 s6 s7 e = let same : only replies.Missing ≡ r = cc in only_is word replies.Missing r same refl (equal word (codes "missing") s4)
+word_by false false false false true g h word r s1 s2 s3 s4 s5 s6 s7 e = let same : only replies.Yes ≡ r = cc in only_is word replies.Yes r same refl (equal word (codes "yes") s5)
+word_by false false false false false true h word r s1 s2 s3 s4 s5 s6 s7 e = let same : only replies.No ≡ r = cc in only_is word replies.No r same refl (equal word (codes "no") s6)
+word_by false false false false false false true word r s1 s2 s3 s4 s5 s6 s7 e = let same : only replies.Range ≡ r = cc in only_is word replies.Range r same refl (equal word (codes "range") s7)
 word_by false false false false false false false word r s1 s2 s3 s4 s5 s6 s7 e = absurd cc
 
 word_read : (word : List ℕ) (r : Replied) → word_reply word ≡ Some r → IsSpelled word r
