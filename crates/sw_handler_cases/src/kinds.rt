@@ -1,7 +1,7 @@
 //! The cases one by one, each by its kind.
 
 use crate::case::Case;
-use crate::{http, script};
+use crate::{http, schedule, script};
 use std::alloc::Global;
 use sw_base::OutOfMemory;
 
@@ -15,6 +15,8 @@ fn put_case(alloc: Global, out: &mut String, case: &Case) -> Result<(), OutOfMem
         "script" => script::put(alloc, out, case, words),
         "http" => http::put(alloc, out, case, words),
         "rules" => script::put_rules(alloc, out, case),
+        "schedule" => schedule::put(alloc, out, case),
+        "schedules" => schedule::put_verdicts(alloc, out, case),
         _ => Ok(out.push_str("no such kind\n")?),
     }
 }

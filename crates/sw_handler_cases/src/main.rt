@@ -7,6 +7,7 @@ mod case;
 mod events;
 mod http;
 mod kinds;
+mod schedule;
 mod script;
 
 use std::io;
