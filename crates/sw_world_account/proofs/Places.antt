@@ -1,5 +1,5 @@
 -- The first link of a session stands at the place that was put first.
-use Rattle.std.proofs.Common.{◌≡◌, ℕ, ◌+◌, ◌<◌, ◌==◌, ◌≢◌, ◌⊎◌, inl, inr, Bool, true, false, cond, if◌then◌else◌, List, [], ◌∷◌, ◌++◌, length, map, take, get_or, Option, Some, None, refl, ap, ◌∙◌, sym, arith, suc, absurd, true≢false, add-one}
+use Rattle.std.proofs.Common.{◌≡◌, ℕ, ◌+◌, ◌<◌, ◌==◌, ◌≢◌, ◌⊎◌, inl, inr, Bool, true, false, cond, if◌then◌else◌, List, [], ◌∷◌, ◌++◌, length, map, take, get_or, Option, Some, None, refl, ap, ◌∙◌, sym, append_assoc, arith, suc, true≢false, add-one}
 use Rattle.std.specs.Prelude.{nat_lt, slice_get, is_some, unwrap_or, option_map, Result, Ok, Err, IfOk}
 use Rattle.sw_base.specs.declared.out_of_memory.OutOfMemory.{OutOfMemory}
 use Rattle.std.specs.Ordering.{nat_cmp, is_eq}
