@@ -34,19 +34,24 @@ with_load w name value =
     else if bytes_eq name (codes "--packets") then packets_named w (unset w.packets (number_within 1 1000000 value))
     else None
 
--- one option after the other, each with its value
-abbrev pub load_more : List (List ℕ) → Option LoadWords → Option LoadWords
-load_more [] w = w
-load_more (name ∷ []) w = None
-load_more (name ∷ value ∷ rest) None = None
-load_more (name ∷ value ∷ rest) (Some w) = load_more rest (with_load w name value)
+-- what the others say, where the words so far are in the grammar
+abbrev pub then_load : Option LoadWords → (LoadWords → Option LoadWords) → Option LoadWords
+then_load None others = None
+then_load (Some w) others = others w
+
+-- one option after the other: a name, and then its value
+abbrev pub load_read : Option (List ℕ) → List (List ℕ) → LoadWords → Option LoadWords
+load_read None [] w = Some w
+load_read (Some name) [] w = None
+load_read None (name ∷ ws) w = load_read (Some name) ws w
+load_read (Some name) (value ∷ ws) w = then_load (with_load w name value) (load_read None ws)
 
 abbrev pub load_words : List (List ℕ) → LoadWords → Option LoadWords
-load_words ws w = load_more ws (Some w)
+load_words ws w = load_read None ws w
 
 -- the same behind an option's name
 abbrev pub load_named : List ℕ → List (List ℕ) → LoadWords → Option LoadWords
-load_named name ws w = load_more (name ∷ ws) (Some w)
+load_named name ws w = load_read (Some name) ws w
 
 -- the plan of three numbers, where all are there
 abbrev pub plan_of : Option ℕ → Option ℕ → Option ℕ → Option Plan

@@ -31,16 +31,21 @@ with_serve w name value =
     else if bytes_eq name (codes "--accept") then accept_named w (unset w.accept (number_within 1 4294967295 value))
     else None
 
--- one option after the other, each with its value
-abbrev pub serve_more : List (List ℕ) → Option ServeWords → Option ServeWords
-serve_more [] w = w
-serve_more (name ∷ []) w = None
-serve_more (name ∷ value ∷ rest) None = None
-serve_more (name ∷ value ∷ rest) (Some w) = serve_more rest (with_serve w name value)
+-- what the others say, where the words so far are in the grammar
+abbrev pub then_serve : Option ServeWords → (ServeWords → Option ServeWords) → Option ServeWords
+then_serve None others = None
+then_serve (Some w) others = others w
+
+-- one option after the other: a name, and then its value
+abbrev pub serve_read : Option (List ℕ) → List (List ℕ) → ServeWords → Option ServeWords
+serve_read None [] w = Some w
+serve_read (Some name) [] w = None
+serve_read None (name ∷ ws) w = serve_read (Some name) ws w
+serve_read (Some name) (value ∷ ws) w = then_serve (with_serve w name value) (serve_read None ws)
 
 abbrev pub serve_words : List (List ℕ) → ServeWords → Option ServeWords
-serve_words ws w = serve_more ws (Some w)
+serve_words ws w = serve_read None ws w
 
 -- the same behind an option's name
 abbrev pub serve_named : List ℕ → List (List ℕ) → ServeWords → Option ServeWords
-serve_named name ws w = serve_more (name ∷ ws) (Some w)
+serve_named name ws w = serve_read (Some name) ws w
