@@ -1,6 +1,9 @@
 //! How long a reactor takes for a serve with nothing to do, for a packet that is cut and pushed, and for a send that is
 //! settled, with few and with many connections.
-ghost use Rattle.std.specs.Prelude.{◌≡◌};
+ghost use Rattle.std.specs.Prelude.{◌≡◌, refl, ℕ, List, Option, None};
+ghost use Rattle.sw_link.specs.Reads.{Read, CountsRead, CountsWrite};
+ghost use Rattle.sw_link.specs.Told.{Told};
+ghost use Rattle.sw_link.specs.declared.link.LinkWrite.{LinkWrite};
 
 use crate::figures::{NO_MEMORY, print_each};
 use std::alloc::Global;
@@ -37,8 +40,6 @@ struct SteadyLink {
 }
 
 impl Link for SteadyLink {
-    ghost use Rattle.sw_link.specs.Reads.{CountsRead, CountsWrite};
-
     ghost told = { λ l. None };
 
     ghost faults = { λ l. l.faults };
@@ -57,7 +58,7 @@ impl Link for SteadyLink {
 
     fn read(&mut self, buf: &mut [u8]) -> LinkRead {
         if self.gives {
-            LinkRead::Got(buf.len().min(PIECE))
+            LinkRead::Got(if buf.len() < PIECE { buf.len() } else { PIECE })
         } else {
             LinkRead::NotYet
         }
