@@ -1,6 +1,6 @@
 pub mod Others
-pub mod Scripts
-pub mod Outside
+pub mod Fed
+pub mod Coming
 pub mod Calls
-pub mod Turns
+pub mod Going
 pub mod Starts

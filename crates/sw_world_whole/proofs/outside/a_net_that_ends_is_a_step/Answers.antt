@@ -1,4 +1,4 @@
-use Rattle.sw_world_whole.proofs.Outside.{net_ends}
+use Rattle.sw_world_whole.proofs.Coming.{net_ends}
 use Rattle.sw_world_whole.proofs.outside.a_net_that_ends_is_a_step.Goals as goal
 
 pub returns : goal.returns

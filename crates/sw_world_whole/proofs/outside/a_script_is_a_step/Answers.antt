@@ -1,4 +1,4 @@
-use Rattle.sw_world_whole.proofs.Outside.{scripts}
+use Rattle.sw_world_whole.proofs.Coming.{scripts}
 use Rattle.sw_world_whole.proofs.outside.a_script_is_a_step.Goals as goal
 
 pub returns : goal.returns

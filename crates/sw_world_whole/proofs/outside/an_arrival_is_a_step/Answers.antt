@@ -1,4 +1,4 @@
-use Rattle.sw_world_whole.proofs.Outside.{arrives}
+use Rattle.sw_world_whole.proofs.Coming.{arrives}
 use Rattle.sw_world_whole.proofs.outside.an_arrival_is_a_step.Goals as goal
 
 pub returns : goal.returns

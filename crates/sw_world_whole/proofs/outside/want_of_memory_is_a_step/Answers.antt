@@ -1,4 +1,4 @@
-use Rattle.sw_world_whole.proofs.Outside.{wants}
+use Rattle.sw_world_whole.proofs.Coming.{wants}
 use Rattle.sw_world_whole.proofs.outside.want_of_memory_is_a_step.Goals as goal
 
 pub returns : goal.returns

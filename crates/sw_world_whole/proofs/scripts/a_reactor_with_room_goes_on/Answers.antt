@@ -1,4 +1,4 @@
-use Rattle.sw_world_whole.proofs.Scripts.{reactor_stays}
+use Rattle.sw_world_whole.proofs.Fed.{reactor_stays}
 use Rattle.sw_world_whole.proofs.scripts.a_reactor_with_room_goes_on.Goals as goal
 
 pub returns : goal.returns

@@ -1,4 +1,4 @@
-use Rattle.sw_world_whole.proofs.Scripts.{reactor_goes_on}
+use Rattle.sw_world_whole.proofs.Fed.{reactor_goes_on}
 use Rattle.sw_world_whole.proofs.scripts.a_reactors_link_goes_on.Goals as goal
 
 pub returns : goal.returns

@@ -1,4 +1,4 @@
-use Rattle.sw_world_whole.proofs.Scripts.{message_same}
+use Rattle.sw_world_whole.proofs.Fed.{message_same}
 use Rattle.sw_world_whole.proofs.scripts.taken_links_go_on.Goals as goal
 
 pub returns : goal.returns

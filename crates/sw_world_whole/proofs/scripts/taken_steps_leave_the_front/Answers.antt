@@ -1,4 +1,4 @@
-use Rattle.sw_world_whole.proofs.Scripts.{front_stays}
+use Rattle.sw_world_whole.proofs.Fed.{front_stays}
 use Rattle.sw_world_whole.proofs.scripts.taken_steps_leave_the_front.Goals as goal
 
 pub returns : goal.returns

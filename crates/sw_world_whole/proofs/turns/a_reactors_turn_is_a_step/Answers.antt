@@ -1,4 +1,4 @@
-use Rattle.sw_world_whole.proofs.Turns.{reactor_turns}
+use Rattle.sw_world_whole.proofs.Going.{reactor_turns}
 use Rattle.sw_world_whole.proofs.turns.a_reactors_turn_is_a_step.Goals as goal
 
 pub returns : goal.returns

@@ -1,4 +1,4 @@
-use Rattle.sw_world_whole.proofs.Turns.{tasker_turns}
+use Rattle.sw_world_whole.proofs.Going.{tasker_turns}
 use Rattle.sw_world_whole.proofs.turns.a_taskers_turn_is_a_step.Goals as goal
 
 pub returns : goal.returns

@@ -155,7 +155,9 @@ module _ {O H T : Type 0} (t : Terms) (served : IsServed t) (crews : Crews) (sha
       (record { front = s.front; book = s.book; board = board_turn t (Worker n) P.board c.ports s.board; table = s.table })
       is_due refl stands.is.hand code (line_numbers acts num) stands.numbered w in
       let Q : Parts O H T = record P { rows = u; book = b; board = o; shelf = q; workers = slice_set P.workers n k } in
-      let fits : GotFits t x.stage (hand_got (got_of got)) = (subst (λ (z : AState). (server t served crews).Quiet (Worker n) z (got_of got) (diary_of st.law.0 (Worker n))) a.1.1.1.0 (is_due.quiet st.law.0 st.law.1)).fits in
+      let quiet : HandHolds t crews.limit (crews.left (Worker n)) (Worker n) x (got_of got) (diary_of st.law.0 (Worker n)) =
+      subst (λ (z : AState). (server t served crews).Quiet (Worker n) z (got_of got) (diary_of st.law.0 (Worker n))) a.1.1.1.0 (is_due.quiet st.law.0 st.law.1) in
+      let fits : GotFits t x.stage (hand_got (got_of got)) = quiet.fits in
       elim g.came [
         | inl m ↦ inl (m.0, fails (Worker n) got mid g.dids (of_hand x) here is_due m.1 a.1.1.1.0 g.stands.front.links)
         | inr m ↦ inr (
