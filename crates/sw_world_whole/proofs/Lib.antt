@@ -4,3 +4,4 @@ pub mod Coming
 pub mod Calls
 pub mod Going
 pub mod Starts
+pub mod Told

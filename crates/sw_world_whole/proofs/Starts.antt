@@ -8,7 +8,7 @@ use Rattle.sw_base.specs.declared.counter.Counter.{Counter}
 use Rattle.sw_base.specs.declared.counter.Counter.TheVariants.{Accepted, Ended, Packets, Sends, Tasks, Finishes}
 use Rattle.sw_port_book.specs.declared.word.Word.{Word}
 use Rattle.sw_port_book.specs.Plain.{Words, free, word_in}
-use Rattle.sw_port_board.specs.PlainBoard.{PlainWords, Counts, plain_words, no_counts, count_of}
+use Rattle.sw_port_board.specs.PlainBoard.{PlainWords, plain_words, no_counts, count_of}
 use Rattle.sw_record.specs.Terms.{Terms}
 use Rattle.sw_table_laws.specs.Table.{Shape}
 use Rattle.sw_join.specs.Legal.{LegalFor}

@@ -4,6 +4,10 @@ use Rattle.sw_step.specs.declared.actor.ActorId.{ActorId}
 use Rattle.sw_step.specs.declared.actor.ActorId.TheVariants.{Door, Reactor, Worker, Tasker}
 use Rattle.sw_record.specs.Words.{Log}
 use Rattle.sw_record.specs.Terms.{Terms}
+use Rattle.sw_record.specs.Sessions.{accepted, SessionsRise}
+use Rattle.sw_record.specs.Right.{Right}
+use Rattle.sw_record.specs.Drained.{Drained}
+use Rattle.sw_record.specs.AfterSeen.{AfterSeen}
 use Rattle.sw_table_laws.specs.Table.{Shape}
 use Rattle.sw_join.specs.Legal.{LegalFor}
 use Rattle.sw_port_book.specs.Plain.{free}
@@ -11,6 +15,8 @@ use Rattle.sw_port_board.specs.PlainBoard.{PlainWords, plain_words, no_counts}
 use Rattle.sw_world_ports.specs.Ports.{Ports, new_ports}
 use Rattle.sw_world_laws.specs.World.{Core, Step, there, next, MayStep}
 use Rattle.sw_world_laws.specs.Law.{Law}
+use Rattle.sw_world_laws.specs.Account.{account, outside}
+use Rattle.sw_world_laws.specs.Runs.{AllDone}
 use Rattle.sw_hand.specs.Hand.{HasRow}
 use Rattle.sw_hand.specs.declared.hand.Hand.{Hand as CodeHand}
 use Rattle.sw_worker.specs.Generations.{Line}
@@ -96,6 +102,13 @@ pub record IsLostStep {O H T : Type 0} (t : Terms) (served : IsServed t) (crews 
   pub lost : (next t (server t served crews) c step).lost ≡ true
   pub states : (z : ActorId) → (next t (server t served crews) c step).states z ≡ c.states z
   pub links : LinksStand t P.front.links (next t (server t served crews) c step).ports.given (next t (server t served crews) c step).ports.waiting
+
+-- what holds of the record of a core that keeps its law
+pub record RecordHolds (t : Terms) (served : IsServed t) (crews : Crews) (shape : Shape) (c : Core AState) : Type 0 where
+  pub right : Right t (LegalFor shape) (account t (server t served crews) c) (outside t (server t served crews) c) (accepted (account t (server t served crews) c))
+  pub drained : AllDone t (server t served crews) c → Drained t (account t (server t served crews) c)
+  pub seen : AfterSeen (account t (server t served crews) c)
+  pub rise : SessionsRise (account t (server t served crews) c)
 
 -- before any step: the code of an actor before its first turn
 abbrev pub ActorIsNew : {O H T : Type 0} → (t : Terms) → Crews → Views O H T → Parts O H T → ActorId → Type 0

@@ -4,6 +4,7 @@
 
 mod outside;
 mod scripts;
+mod telling;
 mod turns;
 
 pub use outside::{
@@ -13,6 +14,10 @@ pub use outside::{
 pub use scripts::{
     a_reactor_with_room_goes_on, a_reactors_link_goes_on, taken_links_go_on,
     taken_steps_leave_the_front,
+};
+pub use telling::{
+    a_standing_core_is_right, finished_places_are_done, reactors_tell_their_links,
+    taskers_tell_their_logs, workers_tell_their_logs,
 };
 pub use turns::{
     a_call_is_a_step, a_doors_turn_is_a_step, a_reactors_turn_is_a_step, a_taskers_turn_is_a_step,
