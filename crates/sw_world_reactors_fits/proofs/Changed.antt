@@ -73,7 +73,7 @@ stands_of t all tables h n lt o e = (let k = h.each n lt in subst (λ (x : Owner
     same x y q = cc
 
 pub room_made : (t : Terms) (all more : List Owner) (tables : ℕ → Table) (n : ℕ) (P : Owner → Type 0) → n < t.reactor_num → ReactorsStand t all tables → AtOwner all n (λ o q. (q.reactor ≡ o.reactor) × (q.ends.kept ≡ o.ends.kept) × P q) more → ReactorsStand t more tables
-room_made t all more tables n P lt h (o, (q, (there, ((reactor, kept, p), e)))) =
+room_made t all more tables n P lt h (o, (q, (there, (reactor, kept, p), e))) =
     (let k : OwnerStands t o (tables n) = stands_of t all tables h n lt o there in
     changed t all more tables tables n q h e (λ m ne. refl) (record {
       ready = subst (λ (r : Reactor MemoryLink ℕ). IsReady number r) (sym reactor) k.ready;
@@ -142,5 +142,5 @@ added_owner {F} t s step o q result x h adds = by (link_of s o.reactor.line.conn
     by (Some l) e (Err fault) a = subst (λ (y : Owner). OwnerStands t y x) (sym a) (linked_owner t s l l o x h e (record { pieces = refl; written = refl; at_end = refl; faults = refl }))
 
 pub step_added : {F : Type 0} (t : Terms) (all more : List Owner) (tables : ℕ → Table) (n session : ℕ) (step : LinkStep) (result : Result (Option LinkStep) F) → n < t.reactor_num → ReactorsStand t all tables → AtOwner all n (λ o q. Adds session step o result q) more → ReactorsStand t more tables
-step_added t all more tables n session step result lt h (o, (q, (there, (adds, e)))) =
+step_added t all more tables n session step result lt h (o, (q, (there, adds, e))) =
     changed t all more tables tables n q h e (λ m ne. refl) (added_owner t session step o q result (tables n) (stands_of t all tables h n lt o there) adds)
