@@ -39,7 +39,7 @@ use Rattle.sw_reactor_table.specs.Reactor.{Reactor as Table}
 use Rattle.sw_reactor.specs.declared.reactor.Reactor.{Reactor as CodeReactor}
 use Rattle.sw_reactor.specs.Serving.{Turns}
 use Rattle.sw_reactor_fits.specs.Told.{BringsNew}
-use Rattle.sw_world_reactor.specs.Reactors.{GotFirst, ReactorTurn, QuietBy, RQuiet}
+use Rattle.sw_world_reactor.specs.Reactors.{ReactorTurn, QuietBy, RQuiet}
 use Rattle.sw_world_reactor_fits.specs.Plain.{memory_tells, plain_ports, ReactorIs, got_of as reactor_got, ask_of as reactor_ask}
 use Rattle.sw_world_reactor_fits.specs.Turns.{Before, TurnIs}
 use Rattle.sw_world_reactor_fits.proofs.Turn.{turn_is}
@@ -63,8 +63,8 @@ low t served crews shape c h l n =
 -- before its turn all that the bridge asks stands
 pub reactor_before : {E : Type 0} (puts : E → MemoryLink → Ended → Bool → E → Type 0) (kept_of : E → List (MemoryLink × Ended)) (t : Terms) (served : IsServed t) (crews : Crews) (shape : Shape) (n : ℕ) (c : Core AState) (s : Table) (d : DoorState) (r : CodeReactor MemoryLink ℕ) (f : Front) (b : Words) (o : PlainWords) (q : PlainTable) (e : E) (got made : Getting) (rows : Rows) →
     (law : Law t (LegalFor shape) (server t served crews) c) → n < t.reactor_num → c.states (Reactor n) ≡ of_reactor s → SharedStands t shape f b o q d c.ports → TurnIsDue t (LegalFor shape) (server t served crews) c (Reactor n) got rows → o.turn ≡ number_of t (Reactor n) →
-    ReactorIs t r (kept_of e) s → GotFirst (got_of got) s → got_of made ≡ got_of got → BringsNew memory_tells made → Keeps puts kept_of e → Before puts kept_of t n c.ports s (diary_of law.0 (Reactor n)) r made b o e
-reactor_before {E} puts kept_of t served crews shape n c s d r f b o q e got made rows (past, l) lt is st due turn it first same new keeps =
+    ReactorIs t r (kept_of e) s → got_of made ≡ got_of got → BringsNew memory_tells made → Keeps puts kept_of e → Before puts kept_of t n c.ports s (diary_of law.0 (Reactor n)) r made b o e
+reactor_before {E} puts kept_of t served crews shape n c s d r f b o q e got made rows (past, l) lt is st due turn it same new keeps =
     let legal = LegalFor shape in
     let word : reactor_got made ≡ got_of got = got_reactor made ∙ same in
     let quiet : RQuiet t (Reactor n) s (got_of got) (diary_of past (Reactor n)) = subst (λ (x : AState). (server t served crews).Quiet (Reactor n) x (got_of got) (diary_of past (Reactor n))) is (due.quiet past l) in
@@ -78,7 +78,6 @@ reactor_before {E} puts kept_of t served crews shape n c s d r f b o q e got mad
       fair = fair_took t legal (server t served crews) c past l n;
       low = low t served crews shape c past l n;
       there = stands_there t legal (server t served crews) c past l n lt;
-      first = subst (λ (g : Got). GotFirst g s) (sym word) first;
       is = it;
       book = st.book;
       board = st.board;
@@ -90,11 +89,11 @@ reactor_before {E} puts kept_of t served crews shape n c s d r f b o q e got mad
 
 pub reactor_goes : {E : Type 0} (puts : E → MemoryLink → Ended → Bool → E → Type 0) (kept_of : E → List (MemoryLink × Ended)) (t : Terms) (served : IsServed t) (crews : Crews) (shape : Shape) (n : ℕ) (c : Core AState) (s : Table) (d : DoorState) (r r2 : CodeReactor MemoryLink ℕ) (f : Front) (b b2 : Words) (o o2 : PlainWords) (q : PlainTable) (e e2 : E) (got made : Getting) (ask : Asking) (rows : Rows) →
     Law t (LegalFor shape) (server t served crews) c → n < t.reactor_num → c.states (Reactor n) ≡ of_reactor s → SharedStands t shape f b o q d c.ports → TurnIsDue t (LegalFor shape) (server t served crews) c (Reactor n) got rows → o.turn ≡ number_of t (Reactor n) →
-    ReactorIs t r (kept_of e) s → GotFirst (got_of got) s → got_of made ≡ got_of got → BringsNew memory_tells made → Keeps puts kept_of e → Turns (plain_ports puts) r made b o e ask r2 b2 o2 e2 → ReactorGoes kept_of t served crews shape n c d got r2 e2 f b2 o2 q ask
-reactor_goes {E} puts kept_of t served crews shape n c s d r r2 f b b2 o o2 q e e2 got made ask rows (past, l) lt is st due turn it first same new keeps turns =
+    ReactorIs t r (kept_of e) s → got_of made ≡ got_of got → BringsNew memory_tells made → Keeps puts kept_of e → Turns (plain_ports puts) r made b o e ask r2 b2 o2 e2 → ReactorGoes kept_of t served crews shape n c d got r2 e2 f b2 o2 q ask
+reactor_goes {E} puts kept_of t served crews shape n c s d r r2 f b b2 o o2 q e e2 got made ask rows (past, l) lt is st due turn it same new keeps turns =
     let legal = LegalFor shape in
     let word : reactor_got made ≡ got_of got = got_reactor made ∙ same in
-    let before = reactor_before puts kept_of t served crews shape n c s d r f b o q e got made rows (past, l) lt is st due turn it first same new keeps in
+    let before = reactor_before puts kept_of t served crews shape n c s d r f b o q e got made rows (past, l) lt is st due turn it same new keeps in
     let k : TurnIs kept_of t legal n c.ports s made r2 ask b2 o o2 e2 = turn_is puts kept_of t legal n c.ports s (diary_of past (Reactor n)) r r2 made ask b b2 o o2 e e2 before turns in
     let goes : ReactorTurn t s (got_of got) k.dids k.state (ask_of ask) = subst (λ (a : Ask). ReactorTurn t s (got_of got) k.dids k.state a) (ask_reactor ask) (subst (λ (g : Got). ReactorTurn t s g k.dids k.state (reactor_ask ask)) word k.turns) in
     let did : (server t served crews).Turn (Reactor n) (c.states (Reactor n)) (got_of got) (handed (server t served crews).has c (Reactor n)) k.dids (of_reactor k.state) (ask_of ask) =

@@ -31,7 +31,6 @@ ghost use Rattle.sw_reactor_table.specs.Reactor.{Reactor as Table};
 ghost use Rattle.sw_reactor.specs.declared.reactor.Reactor.{Reactor as CodeReactor};
 ghost use Rattle.sw_reactor.specs.Serving.{Turns};
 ghost use Rattle.sw_reactor_fits.specs.Told.{BringsNew};
-ghost use Rattle.sw_world_reactor.specs.Reactors.{GotFirst};
 ghost use Rattle.sw_world_reactor_fits.specs.Plain.{memory_tells, plain_ports, ReactorIs};
 ghost use Rattle.sw_world_reactor_fits.specs.Turns.{Before};
 ghost use Rattle.sw_world_asks.specs.Due.{TurnIsDue};
@@ -59,7 +58,7 @@ pub fn reactor_turns_may_be_made<E: Ends<MemoryLink>>()
         (law : Law t (LegalFor shape) (server t served crews) c) → n < t.reactor_num → c.states (Reactor n) ≡ of_reactor s →
         SharedStands t shape f b o q d c.ports →
         TurnIsDue t (LegalFor shape) (server t served crews) c (Reactor n) got rows → o.turn ≡ number_of t (Reactor n) →
-        ReactorIs t r (kept_of e) s → GotFirst (got_of got) s → got_of made ≡ got_of got → BringsNew memory_tells made →
+        ReactorIs t r (kept_of e) s → got_of made ≡ got_of got → BringsNew memory_tells made →
         Keeps E.put_gives kept_of e →
         Before E.put_gives kept_of t n c.ports s (diary_of law.0 (Reactor n)) r made b o e }
 {}
@@ -73,7 +72,7 @@ pub fn reactor_turns_are_the_worlds<E: Ends<MemoryLink>>()
         Law t (LegalFor shape) (server t served crews) c → n < t.reactor_num → c.states (Reactor n) ≡ of_reactor s →
         SharedStands t shape f b o q d c.ports →
         TurnIsDue t (LegalFor shape) (server t served crews) c (Reactor n) got rows → o.turn ≡ number_of t (Reactor n) →
-        ReactorIs t r (kept_of e) s → GotFirst (got_of got) s → got_of made ≡ got_of got → BringsNew memory_tells made →
+        ReactorIs t r (kept_of e) s → got_of made ≡ got_of got → BringsNew memory_tells made →
         Keeps E.put_gives kept_of e → Turns (plain_ports E.put_gives) r made b o e ask r2 b2 o2 e2 →
         ReactorGoes kept_of t served crews shape n c d got r2 e2 f b2 o2 q ask }
 {}

@@ -36,7 +36,6 @@ use Rattle.sw_world_door.specs.Doors.{DoorState}
 use Rattle.sw_reactor_table.specs.Reactor.{Reactor as Table}
 use Rattle.sw_reactor.specs.Serving.{Turns}
 use Rattle.sw_reactor_fits.specs.Told.{BringsNew}
-use Rattle.sw_world_reactor.specs.Reactors.{GotFirst}
 use Rattle.sw_world_reactor_fits.specs.Plain.{memory_tells, plain_ports}
 use Rattle.sw_world_stands.specs.Asked.{got_of}
 use Rattle.sw_world_stands.specs.New.{AskNew}
@@ -119,10 +118,9 @@ module _ {O H T : Type 0} (t : Terms) (served : IsServed t) (crews : Crews) (sha
 
   -- A REACTOR, whose links' scripts went on before
   pub reactor_turns : (n : ℕ) (got made : Getting) (mid u : Rows) (f : Front) (o1 o2 : O) (b : Words) (o : PlainWords) (ask : Asking) → n < t.reactor_num → Goes P.rows (number_of t (Reactor n)) (Some got) mid →
-      ((o0 : O) → slice_get P.owners n ≡ Some o0 → GoesOn t v o0 o1) → FrontSame t P.front f → got_of made ≡ got_of got → BringsNew memory_tells made → ((s : Table) → c.states (Reactor n) ≡ of_reactor s → GotFirst (got_of got) s) →
-      Turns (plain_ports Puts) (v.reactor o1) made P.book (on_turn t (Reactor n) P.board) (v.ends o1) ask (v.reactor o2) b o (v.ends o2) → AsksNext t (Reactor n) mid ask u →
+      ((o0 : O) → slice_get P.owners n ≡ Some o0 → GoesOn t v o0 o1) → FrontSame t P.front f → got_of made ≡ got_of got → BringsNew memory_tells made → Turns (plain_ports Puts) (v.reactor o1) made P.book (on_turn t (Reactor n) P.board) (v.ends o1) ask (v.reactor o2) b o (v.ends o2) → AsksNext t (Reactor n) mid ask u →
       IsStep t served crews shape v c (record P { front = f; rows = u; book = b; board = o; owners = slice_set P.owners n o2 })
-  reactor_turns n got made mid u f o1 o2 b o ask lt goes on front same new first turn asks =
+  reactor_turns n got made mid u f o1 o2 b o ask lt goes on front same new turn asks =
       let here : there t (Reactor n) ≡ true = lt_test n t.reactor_num lt in
       let is_due = due (Reactor n) got mid here goes in
       let s = st.shared in
@@ -132,7 +130,7 @@ module _ {O H T : Type 0} (t : Terms) (served : IsServed t) (crews : Crews) (sha
       let k : ReactorGoes (λ (e : Keeping). e.kept) t served crews shape n c st.door got (v.reactor o2) (v.ends o2) f b o P.shelf ask =
       reactor_goes Puts (λ (e : Keeping). e.kept) t served crews shape n c x st.door (v.reactor o1) (v.reactor o2) f P.book b (on_turn t (Reactor n) P.board) o P.shelf (v.ends o1) (v.ends o2) got made ask mid st.law lt a.1.1.1.0
       (record { front = front st.door c.ports s.front; book = s.book; board = board_turn t (Reactor n) P.board c.ports s.board; table = s.table })
-      is_due refl (go.same x a.1.1.1.1) (first x a.1.1.1.0) same new (keeps_all (v.ends o1) go.room) turn in
+      is_due refl (go.same x a.1.1.1.1) same new (keeps_all (v.ends o1) go.room) turn in
       let Q : Parts O H T = record P { front = f; rows = u; book = b; board = o; owners = slice_set P.owners n o2 } in
       turns Q (Reactor n) got mid k.dids (of_reactor k.state) ask st.door here is_due k.turn k.new asks st.is k.stands
       (one_more t crews v P Q c.states (Reactor n) (of_reactor k.state) (o2, (get_same P.owners n a.0 o2 a.1.0, (k.state, (refl, k.is)))) (λ z w ne old. other_reactors t crews v P Q n o2 refl refl refl z w ne old) st.actors)

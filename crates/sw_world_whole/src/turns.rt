@@ -21,13 +21,11 @@ ghost use Rattle.sw_world_places.specs.Pipes.{Asking, Getting};
 ghost use Rattle.sw_world_places.specs.Places.{Rows, Goes};
 ghost use Rattle.sw_world_front.specs.declared.front.Front.{Front};
 ghost use Rattle.sw_world_front.specs.Front.{TurnsFront};
-ghost use Rattle.sw_reactor_table.specs.Reactor.{Reactor as Table};
 ghost use Rattle.sw_reactor.specs.Serving.{Turns};
 ghost use Rattle.sw_reactor_fits.specs.Told.{BringsNew};
-ghost use Rattle.sw_world_reactor.specs.Reactors.{GotFirst};
 ghost use Rattle.sw_world_reactor_fits.specs.Plain.{memory_tells, plain_ports};
 ghost use Rattle.sw_world_stands.specs.Asked.{got_of};
-ghost use Rattle.sw_world_steps.specs.Server.{IsServed, AState, of_reactor};
+ghost use Rattle.sw_world_steps.specs.Server.{IsServed, AState};
 ghost use Rattle.sw_world_whole.specs.Parts.{Parts, Views};
 ghost use Rattle.sw_world_whole.specs.Whole.{Stands, GoesOn, FrontSame, IsStep, IsLostStep, on_turn, AsksNext};
 
@@ -57,7 +55,6 @@ pub fn a_reactors_turn_is_a_step<O, H, T>()
         Goes P.rows (number_of t (Reactor n)) (Some got) mid →
         ((o0 : O) → slice_get P.owners n ≡ Some o0 → GoesOn t v o0 o1) → FrontSame t P.front f →
         got_of made ≡ got_of got → BringsNew memory_tells made →
-        ((s : Table) → c.states (Reactor n) ≡ of_reactor s → GotFirst (got_of got) s) →
         Turns (plain_ports Puts) (v.reactor o1) made P.book (on_turn t (Reactor n) P.board) (v.ends o1) ask (v.reactor o2) b o (v.ends o2) →
         AsksNext t (Reactor n) mid ask u →
         IsStep t served crews shape v c (record P { front = f; rows = u; book = b; board = o; owners = slice_set P.owners n o2 }) }
