@@ -50,7 +50,13 @@ impl<H: Handler + Drop, T: Handler + Drop> State<H, T> {
         }
     }
 
-    fn turn(&mut self, alloc: Global, actor: ActorId, at: usize, got: Gets) -> Result<(), OutOfMemory> {
+    fn turn(
+        &mut self,
+        alloc: Global,
+        actor: ActorId,
+        at: usize,
+        got: Gets,
+    ) -> Result<(), OutOfMemory> {
         self.board.turn_of(at as u32);
         let ask = self.ask(alloc, actor, got)?;
         self.places.asks(at, ask);
@@ -103,9 +109,10 @@ impl<H: Handler + Drop, T: Handler + Drop> State<H, T> {
         self.reactors.make_room(n)?;
         self.feed_next(alloc, n)?;
         let got = self.feed_taken(alloc, got)?;
-        Ok(self
-            .reactors
-            .turn(alloc, n, got, &mut self.book, &mut self.board))
+        Ok(
+            self.reactors
+                .turn(alloc, n, got, &mut self.book, &mut self.board),
+        )
     }
 
     /// Gives the connection that the reactor serves next what came for its link.
