@@ -2,7 +2,10 @@
 //! says which actor goes next and what comes from outside.
 #![tactic(auto)]
 
+mod feeding;
+mod scripts;
 mod state;
 mod stepping;
+mod turning;
 
 pub use state::State;

@@ -8,7 +8,7 @@ use sw_world_front::Front;
 use sw_world_places::Places;
 use sw_world_reactors::Reactors;
 
-/// All actors with their places, what they share, and the links.
+/// All actors with their places, what they share, the links, and how many descriptors there are.
 #[derive(Drop)]
 pub struct State<H, T> {
     pub front: Front,
@@ -18,4 +18,5 @@ pub struct State<H, T> {
     pub shelf: Plain,
     pub reactors: Reactors,
     pub crew: Crew<H, T>,
+    pub max_conn: u32,
 }
