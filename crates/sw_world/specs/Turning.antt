@@ -26,17 +26,19 @@ ReactorTurns k s got ask n =
     × AtOwner owners k (λ o q. TurnsOwner o made s.book s.board ask q n.book n.board × IsReadyOwner q) n.reactors
     × (n ≡ record s { front = n.front; book = n.book; board = n.board; reactors = n.reactors })))
 
--- a turn of an actor, behind which it found memory
+-- a turn of an actor that found memory; the Table keeps its columns
 abbrev pub TurnsAs : {H T : Type 0} → Acting H → Acting T → ActorId → State H T → Getting → Asking → State H T → Type 0
 TurnsAs acts does Door s got ask n = TurnsFront s.front s.book s.board got n.front n.book n.board ask × (n ≡ record s { front = n.front; book = n.book; board = n.board })
 TurnsAs acts does (Reactor k) s got ask n = ReactorTurns k s got ask n
 TurnsAs acts does (Worker k) s got ask n =
     AtHand s.crew.workers k (λ h g. WorkerTurns (plain_rules_of acts) h s.book s.shelf s.board got g n.book n.shelf n.board ask × GoesOn h g n.shelf) n.crew.workers
     × IfSome (slice_get n.crew.workers k) (λ g. false ≡ g.lost)
+    × (n.shelf.columns ≡ s.shelf.columns)
     × (n ≡ record s { book = n.book; board = n.board; shelf = n.shelf; crew = record s.crew { workers = n.crew.workers } })
 TurnsAs acts does (Tasker k) s got ask n =
     AtHand s.crew.taskers k (λ h g. TurnsBy (plain_rules_of does) h s.book s.shelf s.board got g n.book n.shelf n.board ask × GoesOn h g n.shelf) n.crew.taskers
     × IfSome (slice_get n.crew.taskers k) (λ g. false ≡ g.lost)
+    × (n.shelf.columns ≡ s.shelf.columns)
     × (n ≡ record s { book = n.book; board = n.board; shelf = n.shelf; crew = record s.crew { taskers = n.crew.taskers } })
 
 -- what it needs: an actor that is there, whose turn may be made with this
