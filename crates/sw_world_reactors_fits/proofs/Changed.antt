@@ -114,7 +114,7 @@ linked_length s m (c ∷ cs) = pick (c.session == s)
     pick true = refl
     pick false = ap (λ (n : ℕ). suc n) (linked_length s m cs)
 
-linked_ready : (r : Reactor MemoryLink ℕ) (s : ℕ) (m : MemoryLink) → IsReady number r → IsReady number (record r { line = with_link r.line s m })
+pub linked_ready : (r : Reactor MemoryLink ℕ) (s : ℕ) (m : MemoryLink) → IsReady number r → IsReady number (record r { line = with_link r.line s m })
 linked_ready r s m h = record {
   workers = h.workers;
   slots = h.slots;

@@ -1,0 +1,4 @@
+pub mod Lists
+pub mod Scripted
+pub mod Went
+pub mod May
