@@ -61,6 +61,7 @@ fn feed_link(
 }
 
 /// Adds steps to a link's script, in order.
+#[tactic(auto, using(crate::proofs::Adding::from_last))]
 fn add_all(link: &mut MemoryLink, steps: Vec<LinkStep>) -> Result<(), OutOfMemory>
     ensures { OnOk result (link.new ≡ fed steps.items link.old) }
 {

@@ -2,3 +2,4 @@ pub mod Lists
 pub mod Scripted
 pub mod Went
 pub mod May
+pub mod Any

@@ -82,7 +82,7 @@ module _ {H T : Type 0} (t : Terms) (served : IsServed t) (crews : Crews) (shape
       let front : n.front ≡ record s.front { links = kept link step s.front.links } = subst (λ (l : Option LinkStep). KeepsLeft link l s.front n.front) back keeps in
       let same : n.reactors ≡ s.reactors = all ∙ set_here s.reactors k o is in
       let done : n ≡ record s { front = record s.front { links = kept link step s.front.links } } =
-          e ∙ ap (λ (f : Front). record s { front = f; reactors = n.reactors }) front ∙ ap (λ (r : List Owner). record s { front = record s.front { links = kept link step s.front.links }; reactors = r }) same in
+      e ∙ ap (λ (f : Front). record s { front = f; reactors = n.reactors }) front ∙ ap (λ (r : List Owner). record s { front = record s.front { links = kept link step s.front.links }; reactors = r }) same in
       subst (Goes t served crews shape worker tasker c) (sym done) (kept_goes s st ready link step)
 
   -- to a reactor's link
@@ -91,12 +91,12 @@ module _ {H T : Type 0} (t : Terms) (served : IsServed t) (crews : Crews) (shape
   link_goes s n st ready link session step left k o q l is has none made all keeps e =
       let front : n.front ≡ s.front = subst (λ (x : Option LinkStep). KeepsLeft link x s.front n.front) none keeps in
       let done : n ≡ record s { reactors = slice_set s.reactors k q } =
-          e ∙ ap (λ (f : Front). record s { front = f; reactors = n.reactors }) front ∙ ap (λ (r : List Owner). record s { reactors = r }) all in
+      e ∙ ap (λ (f : Front). record s { front = f; reactors = n.reactors }) front ∙ ap (λ (r : List Owner). record s { reactors = r }) all in
       let tells : TellsSame l (added step l) = fed_same (step ∷ []) l in
       subst (Goes t served crews shape worker tasker c) (sym done)
       (given_goes s st ready link step k o q is
-        (λ x it. subst (λ (y : Owner). ReactorIs t y.reactor y.ends.kept x) (sym made) (script_is t o.reactor o.ends.kept x it session (added step l) (λ y g. subst (λ (z : MemoryLink). TellsSame z (added step l)) (some_same l y (sym has ∙ g)) tells)))
-        (λ able. subst IsReadyOwner (sym made) (linked_ready o.reactor session (added step l) able)))
+      (λ x it. subst (λ (y : Owner). ReactorIs t y.reactor y.ends.kept x) (sym made) (script_is t o.reactor o.ends.kept x it session (added step l) (λ y g. subst (λ (z : MemoryLink). TellsSame z (added step l)) (some_same l y (sym has ∙ g)) tells)))
+      (λ able. subst IsReadyOwner (sym made) (linked_ready o.reactor session (added step l) able)))
 
   -- A STEP OF A SCRIPT
   pub script_goes : (s n : State H T) → Stands t served crews shape (views worker tasker) (parts_of s) c → Ready t s → (link : ℕ) (step : LinkStep) → Scripts s link step n → Goes t served crews shape worker tasker c n

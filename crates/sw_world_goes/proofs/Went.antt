@@ -126,15 +126,15 @@ module _ {H T : Type 0} (t : Terms) (served : IsServed t) (crews : Crews) (shape
       let mine : o ≡ o1 = some_same o o1 (sym is1 ∙ ap (λ (l : List Owner). slice_get l k) all0 ∙ get_same s.reactors k o0 o1 is0) in
       let all : m.reactors ≡ slice_set s.reactors k o2 = all1 ∙ ap (λ (l : List Owner). slice_set l k o2) all0 ∙ set_again s.reactors k o1 o2 in
       let done : n ≡ record s { front = m.front; places = n.places; book = m.book; board = m.board; reactors = slice_set s.reactors k o2 } =
-          e ∙ ap (λ (x : State H T). record x { places = n.places }) is ∙ ap (λ (r : List Owner). record s { front = m.front; places = n.places; book = m.book; board = m.board; reactors = r }) all in
+      e ∙ ap (λ (x : State H T). record x { places = n.places }) is ∙ ap (λ (r : List Owner). record s { front = m.front; places = n.places; book = m.book; board = m.board; reactors = r }) all in
       let w = fed_is t s.front m.front got made feeds in
       subst (Goes t served crews shape worker tasker c) (sym done)
       (record {
         step = reactor_turns t served crews shape (views worker tasker) (parts_of s) c st k got made mid n.places m.front o1 o2 m.book m.board ask lt goes
-          (λ o3 is3. reactor_stays t (views worker tasker) o3 o1 (same_reactor ∙ ap (λ (x : Owner). x.reactor) (some_same o0 o3 (sym is0 ∙ is3))) (same_kept ∙ ap (λ (x : Owner). x.ends.kept) (some_same o0 o3 (sym is0 ∙ is3))) room)
-          w.front (fed_same_got t s.front m.front got made feeds) (fed_new t s.front m.front got made (Reactor k) feeds due.new)
-          (subst (λ (x : Owner). TurnsOwner x made s.book (record s.board { turn = number_of t (Reactor k) }) ask o2 m.book m.board) mine turn)
-          (subst (λ (r : Rows). AtRow r (number_of t (Reactor k)) (λ a b. b ≡ record a { next = Asked ask }) n.places) rows asks);
+            (λ o3 is3. reactor_stays t (views worker tasker) o3 o1 (same_reactor ∙ ap (λ (x : Owner). x.reactor) (some_same o0 o3 (sym is0 ∙ is3))) (same_kept ∙ ap (λ (x : Owner). x.ends.kept) (some_same o0 o3 (sym is0 ∙ is3))) room)
+            w.front (fed_same_got t s.front m.front got made feeds) (fed_new t s.front m.front got made (Reactor k) feeds due.new)
+            (subst (λ (x : Owner). TurnsOwner x made s.book (record s.board { turn = number_of t (Reactor k) }) ask o2 m.book m.board) mine turn)
+            (subst (λ (r : Rows). AtRow r (number_of t (Reactor k)) (λ a b. b ≡ record a { next = Asked ask }) n.places) rows asks);
         ready = record {
           slots = ready.slots;
           some = ready.some;
@@ -152,13 +152,13 @@ module _ {H T : Type 0} (t : Terms) (served : IsServed t) (crews : Crews) (shape
   worker_went k got mid n m ask lt goes ((h, (g, (is0, (turn, hand, house, kind, row), all))), found, columns, is) asks e =
       let rows : m.places ≡ mid = ap (λ (x : State H T). x.places) is in
       let done : n ≡ record s { places = n.places; book = m.book; board = m.board; shelf = m.shelf; crew = record s.crew { workers = slice_set s.crew.workers k g } } =
-          e ∙ ap (λ (x : State H T). record x { places = n.places }) is ∙ ap (λ (r : List (CodeHand (Line H))). record s { places = n.places; book = m.book; board = m.board; shelf = m.shelf; crew = record s.crew { workers = r } }) all in
+      e ∙ ap (λ (x : State H T). record x { places = n.places }) is ∙ ap (λ (r : List (CodeHand (Line H))). record s { places = n.places; book = m.book; board = m.board; shelf = m.shelf; crew = record s.crew { workers = r } }) all in
       let here : false ≡ g.lost = subst (λ (x : Option (CodeHand (Line H))). IfSome x (λ y. false ≡ y.lost)) (ap (λ (l : List (CodeHand (Line H))). slice_get l k) all ∙ get_same s.crew.workers k h g is0) found in
       subst (Goes t served crews shape worker tasker c) (sym done)
       (record {
         step = only_found g.lost here (worker_turns t served crews shape (views worker tasker) (parts_of s) c st acts k got mid n.places h g m.book m.shelf m.board ask num tells lt goes is0 hand turn
-          (subst (λ (r : Rows). AtRow r (number_of t (Worker k)) (λ a b. b ≡ record a { next = Asked ask }) n.places) rows asks)
-          (subst (λ (cs : List Column). HasRow cs g.house g.row) (columns ∙ st.shared.table.columns) row));
+            (subst (λ (r : Rows). AtRow r (number_of t (Worker k)) (λ a b. b ≡ record a { next = Asked ask }) n.places) rows asks)
+            (subst (λ (cs : List Column). HasRow cs g.house g.row) (columns ∙ st.shared.table.columns) row));
         ready = record { slots = ready.slots; some = ready.some; few = ready.few; reactors = ready.reactors; workers = length-set s.crew.workers k g ∙ ready.workers; taskers = ready.taskers; owners = ready.owners };
       })
 
@@ -168,13 +168,13 @@ module _ {H T : Type 0} (t : Terms) (served : IsServed t) (crews : Crews) (shape
   tasker_went k got mid n m ask lt goes ((h, (g, (is0, (turn, hand, house, kind, row), all))), found, columns, is) asks e =
       let rows : m.places ≡ mid = ap (λ (x : State H T). x.places) is in
       let done : n ≡ record s { places = n.places; book = m.book; board = m.board; shelf = m.shelf; crew = record s.crew { taskers = slice_set s.crew.taskers k g } } =
-          e ∙ ap (λ (x : State H T). record x { places = n.places }) is ∙ ap (λ (r : List (CodeHand T)). record s { places = n.places; book = m.book; board = m.board; shelf = m.shelf; crew = record s.crew { taskers = r } }) all in
+      e ∙ ap (λ (x : State H T). record x { places = n.places }) is ∙ ap (λ (r : List (CodeHand T)). record s { places = n.places; book = m.book; board = m.board; shelf = m.shelf; crew = record s.crew { taskers = r } }) all in
       let here : false ≡ g.lost = subst (λ (x : Option (CodeHand T)). IfSome x (λ y. false ≡ y.lost)) (ap (λ (l : List (CodeHand T)). slice_get l k) all ∙ get_same s.crew.taskers k h g is0) found in
       subst (Goes t served crews shape worker tasker c) (sym done)
       (record {
         step = only_found g.lost here (tasker_turns t served crews shape (views worker tasker) (parts_of s) c st does k got mid n.places h g m.book m.shelf m.board ask nums told lt goes is0 hand turn
-          (subst (λ (r : Rows). AtRow r (number_of t (Tasker k)) (λ a b. b ≡ record a { next = Asked ask }) n.places) rows asks)
-          (subst (λ (cs : List Column). HasRow cs g.house g.row) (columns ∙ st.shared.table.columns) row));
+            (subst (λ (r : Rows). AtRow r (number_of t (Tasker k)) (λ a b. b ≡ record a { next = Asked ask }) n.places) rows asks)
+            (subst (λ (cs : List Column). HasRow cs g.house g.row) (columns ∙ st.shared.table.columns) row));
         ready = record { slots = ready.slots; some = ready.some; few = ready.few; reactors = ready.reactors; workers = ready.workers; taskers = length-set s.crew.taskers k g ∙ ready.taskers; owners = ready.owners };
       })
 
