@@ -57,44 +57,52 @@ pub fn new_players(
 }
 
 // Puts lines behind those that are there.
-fn add_lines(
-    lines: &mut TraceLines,
-    more: Vec<TraceLine>,
-    columns: &Schema,
-) -> Result<(), OutOfMemory>
-    requires lines { All (FitsColumns columns.now) lines.old }
-    requires more { All (FitsColumns columns.now) more.items }
-    ensures { IfOk result (λ _. All (FitsColumns columns.now) lines.new) }
+fn add_lines(table: &Table, lines: &mut TraceLines, more: Vec<TraceLine>) -> Result<(), OutOfMemory>
+    requires lines { All (FitsColumns table.now.columns) lines.old }
+    requires more { All (FitsColumns table.now.columns) more.items }
+    ensures { IfOk result (λ _. All (FitsColumns table.now.columns) lines.new) }
 {
-    let _ = columns;
+    let _ = table;
     for line in more {
         lines.push(line)?;
     }
     Ok(())
 }
 
+// Takes what a player kept, and its seat.
+fn take_in(
+    table: &Table,
+    one: Played,
+    lines: &mut TraceLines,
+    seats: &mut Vec<Seat>,
+) -> Result<(), OutOfMemory>
+    requires one { IsPlayed table.now one }
+    requires lines { All (FitsColumns table.now.columns) lines.old }
+    requires seats { All (IsReady table.now 1) seats.old.items }
+    ensures lines { IfOk result (λ _. All (FitsColumns table.now.columns) lines.new) }
+    ensures seats { IfOk result (λ _. All (IsReady table.now 1) seats.new.items) }
+{
+    let player = one?;
+    add_lines(table, lines, player.lines)?;
+    seats.push(player.seat)?;
+    Ok(())
+}
+
 // Takes what the players kept, and their seats.
 fn gather(
     table: &Table,
-    columns: &Schema,
     played: Vec<Played>,
     lines: &mut TraceLines,
     seats: &mut Vec<Seat>,
 ) -> Result<(), OutOfMemory>
-    requires columns { columns.now ≡ table.now.columns }
     requires played { All (IsPlayed table.now) played.items }
     requires lines { All (FitsColumns table.now.columns) lines.old }
     requires seats { All (IsReady table.now 1) seats.old.items }
     ensures lines { IfOk result (λ _. All (FitsColumns table.now.columns) lines.new) }
     ensures seats { IfOk result (λ _. All (IsReady table.now 1) seats.new.items) }
 {
-    let _ = table;
-    let mut played = played;
-    for _ in 0..played.len() {
-        let Some(one) = played.pop() else { break };
-        let player = one?;
-        add_lines(lines, player.lines, columns)?;
-        seats.push(player.seat)?;
+    for one in played {
+        take_in(table, one, lines, seats)?;
     }
     Ok(())
 }
@@ -132,7 +140,7 @@ pub fn run<R: Threads + Wait + Sync>(
     let mut seats = Vec::new(alloc);
     seats.push(first)?;
     let mut trace = trace;
-    gather(&table, &trace.schema, played, &mut trace.lines, &mut seats)?;
+    gather(&table, played, &mut trace.lines, &mut seats)?;
     let Ok(plain) = close(alloc, &table, hands, seats) else {
         return Err(OutOfMemory);
     };
