@@ -1,0 +1,49 @@
+//! The settings as the actors see them.
+ghost use Rattle.std.specs.Prelude.{◌≡◌, ◌<◌};
+ghost use Rattle.sw_hand.specs.House.{IsHouse};
+ghost use Rattle.sw_conn_fits.specs.Shown.{settings as seen};
+ghost use Rattle.sw_hand_fits.specs.Matches.{HouseFits, is_some_table};
+ghost use Rattle.sw_world_make.specs.Terms.{terms_of};
+
+use sw_column::Schema;
+use sw_conn::Terms;
+use sw_hand::House;
+use sw_settings::Settings;
+
+/// The settings as connections see them.
+pub(crate) fn terms(settings: &Settings) -> Terms
+    ensures { result ≡ seen (terms_of settings.now) }
+{
+    Terms {
+        mode: settings.dispatch_mode(),
+        worker_num: settings.worker_num(),
+        tasker_num: settings.task_worker_num(),
+        max_conn: settings.max_conn(),
+        buffer_size: settings.socket_buffer_size(),
+    }
+}
+
+fn has_columns(schema: &Schema) -> bool
+    ensures { result ≡ is_some_table schema.now }
+{
+    match schema.columns() {
+        [] => false,
+        [_, ..] => true,
+    }
+}
+
+/// The settings as workers and task workers see them.
+pub(crate) fn house(settings: &Settings) -> House
+    ensures fits { HouseFits (terms_of settings.now) result }
+    ensures house { IsHouse result }
+{
+    let table = has_columns(settings.schema());
+    House {
+        mode: settings.dispatch_mode(),
+        max_conn: settings.max_conn(),
+        reactors: settings.reactor_num(),
+        workers: settings.worker_num(),
+        taskers: settings.task_worker_num(),
+        table,
+    }
+}
