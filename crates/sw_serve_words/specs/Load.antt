@@ -53,6 +53,10 @@ load_words ws w = load_read None ws w
 abbrev pub load_named : List ℕ → List (List ℕ) → LoadWords → Option LoadWords
 load_named name ws w = load_read (Some name) ws w
 
+-- the same where the words so far may be out of the grammar
+abbrev pub load_more : Option LoadWords → List (List ℕ) → Option LoadWords
+load_more w ws = then_load w (load_read None ws)
+
 -- the plan of three numbers, where all are there
 abbrev pub plan_of : Option ℕ → Option ℕ → Option ℕ → Option Plan
 plan_of None connections packets = None

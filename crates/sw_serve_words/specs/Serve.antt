@@ -49,3 +49,7 @@ serve_words ws w = serve_read None ws w
 -- the same behind an option's name
 abbrev pub serve_named : List ℕ → List (List ℕ) → ServeWords → Option ServeWords
 serve_named name ws w = serve_read (Some name) ws w
+
+-- the same where the words so far may be out of the grammar
+abbrev pub serve_more : Option ServeWords → List (List ℕ) → Option ServeWords
+serve_more w ws = then_serve w (serve_read None ws)

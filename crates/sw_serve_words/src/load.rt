@@ -1,6 +1,6 @@
 //! The words behind `load`.
 ghost use Rattle.std.specs.Prelude.{◌≡◌, map, string_bytes};
-ghost use Rattle.sw_serve_words.specs.Load.{seed_named, connections_named, packets_named, with_load, load_named, load_words, plan_of};
+ghost use Rattle.sw_serve_words.specs.Load.{seed_named, connections_named, packets_named, with_load, load_named, load_more, load_words, plan_of};
 
 use crate::once::unset;
 use sw_load::Plan;
@@ -87,10 +87,18 @@ fn load_named(words: LoadWords, name: &[u8], others: &[String]) -> Option<LoadWo
 {
     match others {
         [] => None,
-        [value, rest @ ..] => match with_load(words, name, value.as_bytes()) {
-            None => None,
-            Some(words) => load_from(words, rest),
-        },
+        [value, rest @ ..] => load_more(with_load(words, name, value.as_bytes()), rest),
+    }
+}
+
+/// The words so far, where they are in the grammar, and what the others say.
+#[cycle(load_words)]
+fn load_more(words: Option<LoadWords>, others: &[String]) -> Option<LoadWords>
+    ensures { result ≡ load_more words (map string_bytes others.now) }
+{
+    match words {
+        None => None,
+        Some(words) => load_from(words, others),
     }
 }
 

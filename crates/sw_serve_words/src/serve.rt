@@ -1,6 +1,6 @@
 //! The words behind `serve`.
 ghost use Rattle.std.specs.Prelude.{◌≡◌, map, string_bytes};
-ghost use Rattle.sw_serve_words.specs.Serve.{port_named, with_port, accept_named, with_serve, serve_named, serve_words};
+ghost use Rattle.sw_serve_words.specs.Serve.{port_named, with_port, accept_named, with_serve, serve_named, serve_more, serve_words};
 ghost use Rattle.sw_text.specs.Numbers.{number_within};
 
 use crate::once::unset;
@@ -84,10 +84,18 @@ fn serve_named(words: ServeWords, name: &[u8], others: &[String]) -> Option<Serv
 {
     match others {
         [] => None,
-        [value, rest @ ..] => match with_serve(words, name, value.as_bytes()) {
-            None => None,
-            Some(words) => serve_from(words, rest),
-        },
+        [value, rest @ ..] => serve_more(with_serve(words, name, value.as_bytes()), rest),
+    }
+}
+
+/// The words so far, where they are in the grammar, and what the others say.
+#[cycle(serve_words)]
+fn serve_more(words: Option<ServeWords>, others: &[String]) -> Option<ServeWords>
+    ensures { result ≡ serve_more words (map string_bytes others.now) }
+{
+    match words {
+        None => None,
+        Some(words) => serve_from(words, others),
     }
 }
 

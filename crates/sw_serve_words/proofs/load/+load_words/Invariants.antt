@@ -6,3 +6,6 @@ decreases-load_named l = 2 * length l.others.now + 1
 
 abbrev pub decreases-load_from : goal.decreases-load_from
 decreases-load_from l = 2 * length l.others.now
+
+abbrev pub decreases-load_more : goal.decreases-load_more
+decreases-load_more l = 2 * length l.others.now + 1

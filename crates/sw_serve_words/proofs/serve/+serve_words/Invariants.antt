@@ -6,3 +6,6 @@ decreases-serve_named l = 2 * length l.others.now + 1
 
 abbrev pub decreases-serve_from : goal.decreases-serve_from
 decreases-serve_from l = 2 * length l.others.now
+
+abbrev pub decreases-serve_more : goal.decreases-serve_more
+decreases-serve_more l = 2 * length l.others.now + 1
