@@ -1,5 +1,6 @@
 //! `serve`, from its input to its output.
-ghost use Rattle.std.specs.Prelude.{IfErr};
+ghost use Rattle.std.specs.Prelude.{◌≡◌, ◌≤◌, None, IfErr, IfOk, length, map};
+ghost use Rattle.sw_run.specs.Counts.{miscount};
 ghost use Rattle.sw_serve.specs.Caused.{IsBad, IsCaused, IsCut, IsTold, IsUnread};
 
 use crate::counting::Counting;
@@ -54,12 +55,16 @@ struct Made<E, H> {
     taskers: Vec<H>,
 }
 
-/// Ends and handlers for a server of this input.
+/// Ends and handlers for a server of this input, as many as its settings ask for.
+#[tactic(auto, using(crate::proofs::Enough::none_missing))]
 fn make<E: Drop>(
     alloc: Global,
     input: &Input,
     ends: Vec<E>,
-) -> Result<Made<E, Following>, OutOfMemory> {
+) -> Result<Made<E, Following>, OutOfMemory>
+    requires { 65 ≤ length ends.items }
+    ensures { IfOk result (λ m. miscount input.now.settings (length m.ends.items) (map (λ hs. length hs.items) m.workers.items) (length m.taskers.items) ≡ None) }
+{
     let workers = worker_handlers(alloc, input)?;
     let taskers = some_handlers(alloc, &input.script, input.settings.task_worker_num())?;
     let ends = some_ends(alloc, ends, input.settings.reactor_num() as usize + 1)?;
@@ -86,6 +91,7 @@ fn run<
 ) -> Result<u64, ServeStatus>
 where
     N::Link: Drop + Send + 'static,
+    requires { 65 ≤ length ends.items }
     ensures { IfErr result (λ s. IsCut (record { old = P.count spawner.old; new = P.count spawner.new }) s) }
 {
     let Ok(made) = make(alloc, input, ends) else {
@@ -107,7 +113,7 @@ where
         Err(fault) => match fault {
             ServeFault::ListenFault(_) => Err(ServeStatus::ListenFault),
             ServeFault::StartFault(_) => Err(ServeStatus::StartFault),
-            ServeFault::HandlerCount(_, _, _) => Err(ServeStatus::OutOfMemory),
+            ServeFault::HandlerCount(_, _, _) => unreachable!(),
             ServeFault::OutOfMemory => Err(ServeStatus::OutOfMemory),
         },
     }
@@ -127,7 +133,7 @@ fn tell<K: Sink>(alloc: Global, sink: &mut K, count: u64) -> ServeStatus
 /// `served` and the number of links that the net gave, or a fault's line. Without rules all handlers are Echo. It waits until
 /// the net is at its end, or a handler shut the server down, and all connections ended.
 ///
-/// `ends` has at least as many members as there are reactors and one more. ReadFault comes only where the source's count of
+/// `ends` has a member for each of the 64 reactors that there may be, and one more for the door. ReadFault comes only where the source's count of
 /// faults rose, WriteFault only where the sink's did, and StartFault only where the spawner's did.
 #[tactic(auto, using(crate::proofs::Causing::unread_told, crate::proofs::Causing::cut_told, crate::proofs::Causing::ok_told))]
 pub fn serve<
@@ -148,6 +154,7 @@ pub fn serve<
 ) -> ServeStatus
 where
     N::Link: Drop + Send + 'static,
+    requires { 65 ≤ length ends.items }
     ensures { IsCaused (record { old = S.faults source.old; new = S.faults source.new })
         (record { old = K.faults sink.old; new = K.faults sink.new })
         (record { old = P.count spawner.old; new = P.count spawner.new }) result }
