@@ -1,5 +1,5 @@
 -- What the input of serve is: settings on its first line, and rules on the others.
-use Rattle.std.specs.Prelude.{◌≡◌, ◌+◌, ◌-◌, ◌^◌, ℕ, List, [], ◌∷◌, Option, Some, None, Result, Ok, Err, min}
+use Rattle.std.specs.Prelude.{◌≡◌, ◌+◌, ◌-◌, ◌^◌, ◌==◌, ℕ, if◌then◌else◌, List, length, Option, Some, None, Result, Ok, Err, min}
 use Rattle.sw_script.specs.Script.{script_of}
 use Rattle.sw_script.specs.declared.script.Script.{Script}
 use Rattle.sw_serve.specs.declared.input.Input.{Input}
@@ -17,8 +17,7 @@ some_rules (Err n) = Err (min (n + 1) (2 ^ 64 - 1))
 
 -- the rules of a text; an empty one has none
 abbrev pub rules_in : List ℕ → Result (Option Script) ℕ
-rules_in [] = Ok None
-rules_in (b ∷ bs) = some_rules (script_of (b ∷ bs))
+rules_in text = if length text == 0 then Ok None else some_rules (script_of text)
 
 -- the rules of what stands behind the first line, if anything does
 abbrev pub rules_behind : Option (List ℕ) → Result (Option Script) ℕ

@@ -1,7 +1,8 @@
 //! What `serve` reads: settings on the first line, and rules on the others.
 ghost use Rattle.std.specs.Option.{option_copied};
 ghost use Rattle.sw_settings_json.specs.Json.{json_settings};
-ghost use Rattle.sw_serve.specs.Inputs.{rules_in, rules_behind, Reads, IsRead, IsInputOf, SetsBy};
+ghost use Rattle.sw_script.specs.Script.{script_of};
+ghost use Rattle.sw_serve.specs.Inputs.{some_rules, rules_in, rules_behind, Reads, IsRead, IsInputOf, SetsBy};
 
 use std::alloc::Global;
 use sw_script::{Script, ScriptFault, read};
@@ -27,17 +28,25 @@ pub enum InputRefusal {
     OutOfMemory,
 }
 
+/// The rules of a text that has some.
+fn some_rules(alloc: Global, text: &[u8]) -> Result<Option<Script>, InputRefusal>
+    ensures { Reads (some_rules (script_of text.now)) result }
+{
+    match read(alloc, text) {
+        Ok(script) => Ok(Some(script)),
+        Err(ScriptFault::BadLine(n)) => Err(InputRefusal::Line(n.saturating_add(1))),
+        Err(ScriptFault::OutOfMemory) => Err(InputRefusal::OutOfMemory),
+    }
+}
+
 /// The rules of a text; an empty one has none.
 fn rules(alloc: Global, text: &[u8]) -> Result<Option<Script>, InputRefusal>
     ensures { Reads (rules_in text.now) result }
 {
-    match text {
-        [] => Ok(None),
-        [_, ..] => match read(alloc, text) {
-            Ok(script) => Ok(Some(script)),
-            Err(ScriptFault::BadLine(n)) => Err(InputRefusal::Line(n.saturating_add(1))),
-            Err(ScriptFault::OutOfMemory) => Err(InputRefusal::OutOfMemory),
-        },
+    if text.len() == 0 {
+        Ok(None)
+    } else {
+        some_rules(alloc, text)
     }
 }
 
