@@ -178,9 +178,9 @@ pub fn figures<R: Clock + Print + Threads + Wait + Sync>(rt: &R, alloc: Global) 
     maps(rt, alloc, 64, "64 of them by hash, raise")?;
     for measured in [Measured::Get, Measured::Set, Measured::Incr, Measured::Del] {
         for rows in [Rows::Own, Rows::Neighbours, Rows::One] {
-            for threads in [1, 2, 4] {
-                figure(rt, alloc, measured, rows, threads)?;
-            }
+            figure(rt, alloc, measured, rows, 1)?;
+            figure(rt, alloc, measured, rows, 2)?;
+            figure(rt, alloc, measured, rows, 4)?;
         }
     }
     Ok(())
