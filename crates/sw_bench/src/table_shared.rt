@@ -1,5 +1,5 @@
-//! Nanoseconds of the shared Table's calls, by one, two and four threads on rows of their own and on one row, beside a bare atomic
-//! add and hash maps under locks in the same run.
+//! Nanoseconds of the shared Table's calls, by one, two and four threads on rows of their own, on neighbouring rows and on
+//! one row, beside a bare atomic add and hash maps under locks in the same run.
 ghost use Rattle.std.specs.Prelude.{All};
 ghost use Rattle.sw_column.specs.Values.{HasKinds};
 ghost use Rattle.sw_table_join.specs.Tables.{IsReady};
