@@ -52,6 +52,11 @@ impl Model for Play {
 
     ghost Value = { Played };
 
+    ghost use Rattle.std.specs.Coded.{codes};
+    ghost use Rattle.std.specs.FinMap.{code};
+
+    ghost coded = { Prim.hlevel (codes, code) };
+
     ghost view = { λ p. record { actor = p.actor; book = p.book; shelf = p.shelf; board = p.board; own = p.own; crew = p.crew; number = p.number } };
 
     ghost invariant = { λ p. MayTurn p.actor p.shelf.plain.columns p.board.sizes };
