@@ -17,6 +17,7 @@ mod table_beside;
 mod table_crowd;
 mod table_shared;
 mod timers;
+mod turn;
 
 use std::alloc::Global;
 use std::rt::Clock;
@@ -25,7 +26,7 @@ use std::thread::Threads;
 use std::{env, io};
 
 /// What is printed where no part is named, behind a small load that is the same at each run.
-const USAGE: &str = "usage: sw_bench pipe|rowlock|board|sessions|table|audit|cut|timers";
+const USAGE: &str = "usage: sw_bench pipe|rowlock|board|sessions|table|audit|cut|timers|turn";
 
 fn main(rt: HostRuntime) -> io::Result<()> {
     let mut words = env::args(&rt)?;
@@ -43,6 +44,7 @@ fn main(rt: HostRuntime) -> io::Result<()> {
         "audit" => audit::figures(&rt, rt.alloc()),
         "cut" => cut::figures(&rt, rt.alloc()),
         "timers" => timers::figures(&rt, rt.alloc()),
+        "turn" => turn::figures(&rt, rt.alloc()),
         _ => println!(rt; "{USAGE}"),
     }
 }

@@ -3,8 +3,6 @@
 #![tactic(auto)]
 
 mod answers;
-mod case;
-mod events;
 mod http;
 mod kinds;
 mod schedule;

@@ -1,9 +1,9 @@
 //! Cases of schedules: a text in, what it says out, each line as it is written shortest.
 
-use crate::case::Case;
 use crate::script::{add, put_acts, text_of};
 use std::alloc::Global;
 use sw_base::{Octets, OutOfMemory};
+use sw_case_texts::Case;
 use sw_schedule::{Line, read};
 use sw_script::{On, Script};
 use sw_scripted::Scripted;

@@ -1,10 +1,9 @@
 //! Cases of scripts: a script and what a handler that follows it is given in, its acts out.
 
 use crate::answers::answer;
-use crate::case::Case;
-use crate::events::event;
 use std::alloc::Global;
 use sw_base::OutOfMemory;
+use sw_case_texts::{Case, event};
 use sw_data::Given;
 use sw_handler::Handler;
 use sw_http_worker::HttpWorker;
