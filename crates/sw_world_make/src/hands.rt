@@ -32,13 +32,13 @@ fn add_worker<H: Drop>(
     ensures { OnOk result (AddsWorker settings.now handlers.items all.old all.new) }
 {
     let line = logged(alloc, handlers)?;
-    let house = house(settings);
+    let seen = house(settings);
     all.add(
         alloc,
         line,
         settings.max_request(),
         settings.schema(),
-        house,
+        seen,
     )?;
     Ok(())
 }
@@ -70,9 +70,9 @@ fn add_tasker<T: Drop>(
     requires few { length all.old < 2 ^ 32 }
     ensures { OnOk result (AddsTasker settings.now handler all.old all.new) }
 {
-    let house = house(settings);
-    let logged = Logged::new(alloc, handler);
-    all.add(alloc, logged, settings.schema(), house)?;
+    let seen = house(settings);
+    let kept = Logged::new(alloc, handler);
+    all.add(alloc, kept, settings.schema(), seen)?;
     Ok(())
 }
 

@@ -13,6 +13,7 @@ use crate::fault::WorldFault;
 use crate::hands::{taskers, workers};
 use crate::made::Made;
 use crate::parts::{board, book, front, places, reactors, shelf};
+use crate::seen::served;
 use std::alloc::Global;
 use sw_base::OutOfMemory;
 use sw_handler::Logged;
@@ -32,6 +33,7 @@ fn assembled<H: Drop, T: Drop>(
     ensures workers { IfOk result (λ m. map handlers_of m.crew.workers ≡ map (λ hs. hs.items) given.items) }
     ensures taskers { IfOk result (λ m. map handler_of m.crew.taskers ≡ tasks.items) }
 {
+    served(settings);
     let front = front(alloc, settings)?;
     let places = places(alloc, settings)?;
     let book = book(alloc, settings)?;
@@ -66,7 +68,7 @@ pub fn make<H: Drop, T: Drop>(
     taskers: Vec<T>,
 ) -> Result<Made<Logged<H>, Logged<T>>, WorldFault>
     ensures served { IsServed (terms_of settings.now) }
-    ensures last { (terms_of settings.now).session_last < 2 ^ 32 }
+    ensures last { settings.now.session_last < 2 ^ 32 }
     ensures legal { LegalFor (shape_of settings.now) [] }
     ensures counted { IfOk result (λ m. count_fault settings.now (map (λ hs. hs.items) workers.items) (length taskers.items) ≡ None) }
     ensures refused { IfErr result (IsRefusal (count_fault settings.now (map (λ hs. hs.items) workers.items) (length taskers.items))) }
@@ -75,6 +77,7 @@ pub fn make<H: Drop, T: Drop>(
     ensures workers { IfOk result (λ m. map handlers_of m.crew.workers ≡ map (λ hs. hs.items) workers.items) }
     ensures taskers { IfOk result (λ m. map handler_of m.crew.taskers ≡ taskers.items) }
 {
+    served(settings);
     if let Some(fault) = count_fault(settings, workers.as_slice(), taskers.as_slice()) {
         return Err(fault);
     }

@@ -83,11 +83,12 @@ pub(crate) fn shelf(alloc: Global, settings: &Settings) -> Result<Plain, OutOfMe
 pub(crate) fn reactors(alloc: Global, settings: &Settings) -> Result<Reactors, OutOfMemory>
     ensures { IfOk result (λ all. ReactorsStand (terms_of settings.now) all (λ n. started)) }
 {
-    let framing = FitFraming::of(settings.framing().copy()?);
-    let terms = terms(settings);
+    let copied = settings.framing().copy()?;
+    let framing = FitFraming::of(copied);
+    let seen = terms(settings);
     let reactors = Reactors::make(
         alloc,
-        terms,
+        seen,
         &framing,
         settings.read_size(),
         settings.reactor_num(),

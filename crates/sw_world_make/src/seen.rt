@@ -1,18 +1,38 @@
 //! The settings as the actors see them.
-ghost use Rattle.std.specs.Prelude.{◌≡◌, ◌<◌};
+ghost use Rattle.std.specs.Prelude.{◌≡◌, ◌<◌, ◌≤◌, ◌+◌, ◌^◌, []};
+ghost use Rattle.sw_join.specs.Legal.{LegalFor};
 ghost use Rattle.sw_hand.specs.House.{IsHouse};
 ghost use Rattle.sw_conn_fits.specs.Shown.{settings as seen};
 ghost use Rattle.sw_hand_fits.specs.Matches.{HouseFits, is_some_table};
-ghost use Rattle.sw_world_make.specs.Terms.{terms_of};
+ghost use Rattle.sw_world_steps.specs.Server.{IsServed};
+ghost use Rattle.sw_world_make.specs.Terms.{terms_of, shape_of};
 
 use sw_column::Schema;
 use sw_conn::Terms;
 use sw_hand::House;
 use sw_settings::Settings;
 
+/// Reads the settings, under each of which a core runs; it does nothing else.
+pub(crate) fn served(settings: &Settings)
+    ensures served { IsServed (terms_of settings.now) }
+    ensures last { settings.now.session_last < 2 ^ 32 }
+    ensures legal { LegalFor (shape_of settings.now) [] }
+    ensures some { 1 ≤ settings.now.reactor_num }
+    ensures few { settings.now.worker_num + settings.now.task_worker_num + settings.now.reactor_num + 1 ≤ 2 ^ 32 }
+{
+    settings.worker_num();
+    settings.task_worker_num();
+    settings.reactor_num();
+    settings.max_conn();
+    settings.session_last();
+    settings.framing();
+}
+
 /// The settings as connections see them.
 pub(crate) fn terms(settings: &Settings) -> Terms
-    ensures { result ≡ seen (terms_of settings.now) }
+    ensures value { result ≡ seen (terms_of settings.now) }
+    ensures workers { 0 < result.worker_num }
+    ensures slots { 0 < result.max_conn }
 {
     Terms {
         mode: settings.dispatch_mode(),
