@@ -24,7 +24,7 @@ use Rattle.sw_world_crew_fits.specs.Stand.{WorkerStands, WorkersStand, TaskersSt
 use Rattle.sw_world_crew_fits.proofs.Workers.{no_workers, add_worker}
 use Rattle.sw_world_crew_fits.proofs.Taskers.{no_taskers, add_tasker}
 use Rattle.sw_world_make.specs.Terms.{terms_of}
-use Rattle.sw_world_make.specs.Handlers.{left_of, crews_by, AreLogged, WorkersNew, handlers_of, AreWorkers, AddsWorker, handler_of, AreTaskers, AddsTasker}
+use Rattle.sw_world_make.specs.Handlers.{left_of, crews_by, AreLogged, WorkersNew, handlers_of, AreWorkers, AddsWorker, handler_of, AreTaskers}
 
 -- where one worker more is given, the others have what they had
 left_before : (ks : List ℕ) (k n : ℕ) → n < length ks → left_of (ks ++ k ∷ []) n ≡ left_of ks n
@@ -59,7 +59,7 @@ no_worker {H} v all e = subst (λ (ws : List (CodeHand (Line (Logged H)))). AreW
   handlers = refl;
 })
 
-pub one_worker : {H : Type 0} (v : Values) (handlers : List H) (logged : List (Logged H)) (limit : ℕ) (cols : List Column) (house : House) (all more : List (CodeHand (Line (Logged H)))) → 0 < length handlers → AreLogged handlers logged → limit ≡ v.max_request → cols ≡ columns_named v.table_columns → HouseFits (terms_of v) house → IsHouse house → HasKinds cols (blank cols) → more ≡ all ++ worker_started 0 (length all) logged limit (blank cols) house ∷ [] → AddsWorker v handlers all more
+pub one_worker : {H : Type 0} (v : Values) (handlers : List H) (logged : List (Logged H)) (limit : ℕ) (cols : List Column) (house : House) (all more : List (CodeHand (Line (Logged H)))) → 0 < length handlers → AreLogged handlers logged → limit ≡ v.max_request → cols ≡ columns_named v.table_columns → HouseFits (terms_of v) house → IsHouse house → HasKinds cols (blank cols) → more ≡ all ++ worker_started 0 (length all) logged limit (blank cols) house ∷ [] → (given : List (List H)) → AreWorkers v given all → AreWorkers v (given ++ handlers ∷ []) more
 one_worker {H} v handlers logged limit cols house all more some are limit_is cols_are fits is kinds e given h = record { stand = stand; handlers = same }
   where
     more_is : more ≡ all ++ worker_started 0 (length given) logged v.max_request (blank (columns_named v.table_columns)) house ∷ []
@@ -96,7 +96,7 @@ workers_many items v taken all h = h.stand.many ∙ length-map taken items
 pub no_tasker : {T : Type 0} (v : Values) (all : List (CodeHand (Logged T))) → all ≡ [] → AreTaskers v [] all
 no_tasker {T} v all e = subst (λ (ws : List (CodeHand (Logged T))). AreTaskers v [] ws) (sym e) (record { stand = no_taskers log_of (terms_of v) (λ n. new_hand 0); handlers = refl })
 
-pub one_tasker : {T : Type 0} (v : Values) (handler : T) (l : Logged T) (cols : List Column) (house : House) (all more : List (CodeHand (Logged T))) → inner_of l ≡ handler → log_of l ≡ [] → cols ≡ columns_named v.table_columns → HouseFits (terms_of v) house → IsHouse house → HasKinds cols (blank cols) → more ≡ all ++ tasker_started (length all) l (blank cols) house ∷ [] → AddsTasker v handler all more
+pub one_tasker : {T : Type 0} (v : Values) (handler : T) (l : Logged T) (cols : List Column) (house : House) (all more : List (CodeHand (Logged T))) → inner_of l ≡ handler → log_of l ≡ [] → cols ≡ columns_named v.table_columns → HouseFits (terms_of v) house → IsHouse house → HasKinds cols (blank cols) → more ≡ all ++ tasker_started (length all) l (blank cols) house ∷ [] → (given : List T) → AreTaskers v given all → AreTaskers v (given ++ handler ∷ []) more
 one_tasker {T} v handler l cols house all more inner silent cols_are fits is kinds e given h = record { stand = stand; handlers = same }
   where
     more_is : more ≡ all ++ tasker_started (length given) l (blank (columns_named v.table_columns)) house ∷ []
