@@ -1,6 +1,6 @@
 -- Players sorted one by one.
 use Rattle.std.proofs.Common.{◌≡◌, ℕ, zero, suc, arith, subst, All, List, [], ◌∷◌, ◌++◌, refl, sym, ap, append-nil, ◌∙◌}
-use Rattle.std.proofs.lemmas.List.Elements.{All-append}
+use Rattle.std.proofs.lemmas.List.Elements.{All-append, All-tail}
 use Rattle.sw_players.specs.declared.actor.Actor.{Actor}
 use Rattle.sw_players.specs.declared.actor.Actor.TheVariants.{Door, Reactor, Worker, Tasker}
 use Rattle.sw_players.specs.declared.door.AtDoor.{AtDoor}
@@ -21,6 +21,15 @@ none P k d lt = absurd (omega arith)
 
 more : {X : Type 0} (P : X → Type 0) (xs ys : List X) (x : X) → ys ≡ xs ++ x ∷ [] → All P xs → P x → All P ys
 more P xs ys x e h p = subst (All P) (sym e) (All-append P xs (x ∷ []) h (one P x p))
+
+last_all : {X : Type 0} (P : X → Type 0) (xs : List X) (x : X) → All P (xs ++ x ∷ []) → P x
+last_all P [] x h = h 0 x (omega arith)
+last_all P (y ∷ xs) x h = last_all P xs x (All-tail P y (xs ++ x ∷ []) h)
+
+-- the last of doors is one
+pub last_is : {N J E L : Type 0} (all others : List (AtDoor N J E L)) (last : AtDoor N J E L) → all ≡ others ++ last ∷ [] → All (λ (p : AtDoor N J E L). IsDoor p.door) all → IsDoor last.door
+last_is {N} {J} {E} {L} all others last e h =
+    last_all (λ (p : AtDoor N J E L). IsDoor p.door) others last (subst (All (λ (p : AtDoor N J E L). IsDoor p.door)) e h)
 
 module _ {N J E H T L : Type 0} where
   doors_more : (ps : List (Actor N J E H T L)) (q : Actor N J E H T L) → doors_in (ps ++ q ∷ []) ≡ doors_in ps ++ doors_in (q ∷ [])

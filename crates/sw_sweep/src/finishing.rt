@@ -1,5 +1,5 @@
 //! What the players brought back is put together, and all that they shared ends.
-ghost use Rattle.std.specs.Prelude.{◌≡◌, ◌<◌, IfOk, IfSome, map};
+ghost use Rattle.std.specs.Prelude.{◌≡◌, [], ◌∷◌, ◌++◌, All, IfOk, IfSome, map};
 ghost use Rattle.sw_players.specs.Actors.{actor_made};
 ghost use Rattle.sw_players.specs.Hears.{Hears};
 ghost use Rattle.sw_players.specs.Turns.{IsDoor};
@@ -63,6 +63,16 @@ where
     }
 }
 
+/// Takes the last of doors.
+#[tactic(auto, using(crate::proofs::Sorting::last_is))]
+fn last_door<N: Net, J: Naming, E>(doors: &mut Vec<AtDoor<N, J, E>>) -> Option<AtDoor<N, J, E>>
+    requires { All (λ p. IsDoor p.door) doors.old.items }
+    ensures door { IfSome result (λ d. IsDoor d.door) }
+    ensures last { IfSome result (λ d. doors.old.items ≡ doors.new.items ++ d ∷ []) }
+{
+    doors.pop()
+}
+
 /// Ends session words, board and Table, and gives what the Table's calls left.
 fn close_all<J: Naming>(
     alloc: Global,
@@ -110,7 +120,7 @@ where
         workers,
         taskers,
     } = sort(alloc, players)?;
-    let Some(door) = doors.pop() else {
+    let Some(door) = last_door(&mut doors) else {
         return Err(OutOfMemory);
     };
     let mut shares = Shares::new(alloc);
