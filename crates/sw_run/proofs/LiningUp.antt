@@ -37,10 +37,10 @@ module _ {N H T : Type 0} where
   reactors_taskers (of_worker w ∷ ms) ns h = absurd h
   reactors_taskers (of_tasker t ∷ ms) ns h = absurd h
 
-  worker_of : H → Made N H T
+  abbrev worker_of : H → Made N H T
   worker_of w = of_worker w
 
-  tasker_of : T → Made N H T
+  abbrev tasker_of : T → Made N H T
   tasker_of t = of_tasker t
 
   workers_nets : (ws : List H) (ns : List (Made N H T)) → nets_of (map worker_of ws ++ ns) ≡ nets_of ns

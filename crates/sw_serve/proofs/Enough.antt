@@ -21,10 +21,8 @@ all_equal need (suc n) next = equal Generations need need (generations need (rep
 
 pub none_missing : (v : Values) (ends : ℕ) (workers : List ℕ) (taskers : ℕ) → ends ≡ v.reactor_num + 1 → workers ≡ replicate v.worker_num v.generation_num → taskers ≡ v.task_worker_num → miscount v ends workers taskers ≡ None
 none_missing v ends workers taskers are_ends are_workers are_taskers =
-    let last : Option Missing = or_next Taskers v.task_worker_num taskers None in
-    let each : Option Missing = generations v.generation_num workers last in
-    let inner : Option Missing = or_next Workers v.worker_num (length workers) each in
-    equal Ends (v.reactor_num + 1) ends inner are_ends
-    ∙ equal Workers v.worker_num (length workers) each (ap length are_workers ∙ length-replicate v.worker_num v.generation_num)
-    ∙ ap (λ ws. generations v.generation_num ws last) are_workers ∙ all_equal v.generation_num v.worker_num last
+    equal Ends (v.reactor_num + 1) ends _ are_ends
+    ∙ equal Workers v.worker_num (length workers) _ (ap length are_workers ∙ length-replicate v.worker_num v.generation_num)
+    ∙ ap (λ ws. generations v.generation_num ws (or_next Taskers v.task_worker_num taskers None)) are_workers
+    ∙ all_equal v.generation_num v.worker_num (or_next Taskers v.task_worker_num taskers None)
     ∙ equal Taskers v.task_worker_num taskers None are_taskers

@@ -21,7 +21,7 @@ pub mapped_more : {X Y Z : Type 0} (f : X → Z) (h : Y → Z) (xs xs' : List X)
 mapped_more f h xs xs' x ys y e same was =
     ap (map f) e ∙ map-append f xs (x ∷ []) ∙ ap (λ l. l ++ f x ∷ []) was ∙ ap (λ z. map h ys ++ z ∷ []) same ∙ sym (map-append h ys (y ∷ []))
 
-head_or : {Z : Type 0} → Z → List Z → Z
+abbrev head_or : {Z : Type 0} → Z → List Z → Z
 head_or z [] = z
 head_or z (w ∷ ws) = w
 
