@@ -31,6 +31,7 @@ fn or_next(
 }
 
 /// The first worker that hasn't as many handlers as each needs.
+#[tactic(auto, using(crate::proofs::Counted::generations_first, crate::proofs::Counted::generations_none))]
 fn generations<H>(
     need: u64,
     workers: &[Vec<H>],
@@ -38,9 +39,9 @@ fn generations<H>(
 ) -> Option<(Part, u64, u64)>
     ensures { result ≡ generations need (map (λ w. length w.items) workers.now) next }
 {
-    match workers {
-        [] => next,
-        [first, rest @ ..] => or_next(
+    match workers.split_first() {
+        None => next,
+        Some((first, rest)) => or_next(
             Part::Generations,
             need,
             first.len() as u64,

@@ -52,11 +52,12 @@ fn kind_named(first: &[u8], rest: &[String]) -> Kind
 }
 
 /// What the words of the command line ask for; the program's own name isn't among them.
+#[tactic(auto, using(crate::proofs::Reading::kind_first, crate::proofs::Reading::kind_none))]
 pub fn kind_of(words: &[String]) -> Kind
     ensures { result ≡ kind_of (map string_bytes words.now) }
 {
-    match words {
-        [] => Kind::Tool,
-        [first, rest @ ..] => kind_named(first.as_bytes(), rest),
+    match words.split_first() {
+        None => Kind::Tool,
+        Some((first, rest)) => kind_named(first.as_bytes(), rest),
     }
 }

@@ -82,12 +82,13 @@ fn with_load(words: LoadWords, name: &[u8], value: &[u8]) -> Option<LoadWords>
 
 /// These words with the option of this name, and what the others say, of which the first is its value.
 #[cycle(load_words)]
+#[tactic(auto, using(crate::proofs::Reading::load_value, crate::proofs::Reading::load_valueless))]
 fn load_named(words: LoadWords, name: &[u8], others: &[String]) -> Option<LoadWords>
     ensures { result ≡ load_named name.now (map string_bytes others.now) words }
 {
-    match others {
-        [] => None,
-        [value, rest @ ..] => load_more(with_load(words, name, value.as_bytes()), rest),
+    match others.split_first() {
+        None => None,
+        Some((value, rest)) => load_more(with_load(words, name, value.as_bytes()), rest),
     }
 }
 
@@ -104,12 +105,13 @@ fn load_more(words: Option<LoadWords>, others: &[String]) -> Option<LoadWords>
 
 /// These words, and what the others say.
 #[cycle(load_words)]
+#[tactic(auto, using(crate::proofs::Reading::load_first, crate::proofs::Reading::load_end))]
 fn load_from(words: LoadWords, others: &[String]) -> Option<LoadWords>
     ensures { result ≡ load_words (map string_bytes others.now) words }
 {
-    match others {
-        [] => Some(words),
-        [name, rest @ ..] => load_named(words, name.as_bytes(), rest),
+    match others.split_first() {
+        None => Some(words),
+        Some((name, rest)) => load_named(words, name.as_bytes(), rest),
     }
 }
 

@@ -79,12 +79,13 @@ fn with_serve(words: ServeWords, name: &[u8], value: &[u8]) -> Option<ServeWords
 
 /// These words with the option of this name, and what the others say, of which the first is its value.
 #[cycle(serve_words)]
+#[tactic(auto, using(crate::proofs::Reading::serve_value, crate::proofs::Reading::serve_valueless))]
 fn serve_named(words: ServeWords, name: &[u8], others: &[String]) -> Option<ServeWords>
     ensures { result ≡ serve_named name.now (map string_bytes others.now) words }
 {
-    match others {
-        [] => None,
-        [value, rest @ ..] => serve_more(with_serve(words, name, value.as_bytes()), rest),
+    match others.split_first() {
+        None => None,
+        Some((value, rest)) => serve_more(with_serve(words, name, value.as_bytes()), rest),
     }
 }
 
@@ -101,12 +102,13 @@ fn serve_more(words: Option<ServeWords>, others: &[String]) -> Option<ServeWords
 
 /// These words, and what the others say.
 #[cycle(serve_words)]
+#[tactic(auto, using(crate::proofs::Reading::serve_first, crate::proofs::Reading::serve_end))]
 fn serve_from(words: ServeWords, others: &[String]) -> Option<ServeWords>
     ensures { result ≡ serve_words (map string_bytes others.now) words }
 {
-    match others {
-        [] => Some(words),
-        [name, rest @ ..] => serve_named(words, name.as_bytes(), rest),
+    match others.split_first() {
+        None => Some(words),
+        Some((name, rest)) => serve_named(words, name.as_bytes(), rest),
     }
 }
 
