@@ -5,8 +5,8 @@ ghost use Rattle.sw_table_uses.specs.Players.{IsPlayer};
 use std::alloc::{AllocError, Global};
 use sw_base::{Call, Key, Name, OutOfMemory, Pairs, Value};
 use sw_column::{Kind, RowBuf, Schema};
-use sw_table::{Table, create};
-use sw_table_uses::{Player, new_players};
+use sw_table::Table;
+use sw_table_uses::{Player, new_players, opened};
 
 /// How many buckets the Table has.
 const BUCKETS: u32 = 4096;
@@ -142,7 +142,7 @@ pub fn crowd(alloc: Global, threads: u32) -> Result<Crowd, OutOfMemory>
     let mut schema = Schema::new(alloc);
     let _ = schema.column(b"n", Kind::Int, 8);
     let copy = schema.copy()?;
-    let (table, mut hands, mut seat) = create(alloc, copy, BUCKETS, 100, LAST_CALL)?;
+    let (table, mut hands, mut seat) = opened(alloc, copy, BUCKETS, 100, LAST_CALL)?;
     let players = new_players(alloc, &table, &schema, &mut hands, &mut seat, threads)?;
     let row = RowBuf::make(alloc, &schema)?;
     let first = Player {

@@ -1,6 +1,8 @@
--- A player's seat has one part.
-use Rattle.std.proofs.Common.{◌≡◌, ◌<◌, ℕ, List, refl, ap, ◌∙◌, arith}
+-- A player's seat has one part, and a Table some bucket.
+use Rattle.std.proofs.Common.{◌≡◌, ◌<◌, ◌≤◌, ℕ, List, refl, ap, ◌∙◌, arith}
 use Rattle.sw_rowlock.specs.Seats.{new_seat}
+use Rattle.sw_table_laws.specs.Sizes.{raised}
+use Rattle.sw_table_laws.proofs.RaisedLaws.{size_is_raised}
 use Rattle.sw_table_join.specs.declared.table_call.TableCall.{TableCall}
 use Rattle.sw_table_join.specs.Tables.{SharedNow, SeatView, IsReady}
 
@@ -21,3 +23,7 @@ new_ready t s seen also e = record {
   no_row = ap (λ (w : SeatView). w.row) e;
   no_pool = ap (λ (w : SeatView). w.pool) e;
 }
+
+-- a Table that was just made
+pub some_bucket : (size n : ℕ) → size ≡ raised n → n ≤ 524288 → 0 < size
+some_bucket size n is le = let least = (size_is_raised n le).least in omega (arith, least, is)

@@ -4,6 +4,7 @@ ghost use Rattle.sw_audit.specs.Grammar.{IsTrace};
 ghost use Rattle.sw_table_join.specs.Tables.{IsHandsOf, IsReady};
 ghost use Rattle.sw_table_uses.specs.Players.{IsPlayer, IsPlayed, FitsColumns};
 
+use crate::opening::opened;
 use crate::player::{Played, Player, play};
 use std::alloc::Global;
 use std::sync::Wait;
@@ -11,7 +12,7 @@ use std::thread::{Threads, map_vec};
 use sw_audit::{Trace, TraceLine, TraceLines, Verdict, judge};
 use sw_base::{Call, OutOfMemory};
 use sw_column::{RowBuf, Schema};
-use sw_table::{Hands, Seat, Table, close, create};
+use sw_table::{Hands, Seat, Table, close};
 use sw_tmodel::Plain;
 
 /// As many calls as a Table can have.
@@ -121,7 +122,7 @@ pub fn run<R: Threads + Wait + Sync>(
     ensures { IfOk result (λ o. o.plain.columns ≡ trace.schema) }
 {
     let schema = trace.schema.copy()?;
-    let (table, mut hands, mut first) = create(
+    let (table, mut hands, mut first) = opened(
         alloc,
         schema,
         trace.size,

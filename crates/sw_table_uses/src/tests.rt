@@ -12,7 +12,7 @@ use sw_base::{Call, OutOfMemory, Reply, Value};
 use sw_call::call;
 use sw_column::RowBuf;
 use sw_port_shelf::Placed;
-use sw_table::{PartFault, Seat, Table, create};
+use sw_table::{PartFault, Seat, Table};
 
 // Each verb and what follows its key, on each of so many keys.
 fn calls(alloc: Global, verbs: &[(&str, &str)], keys: u32) -> Result<Vec<Call>, OutOfMemory> {
@@ -101,7 +101,7 @@ fn a_part_has_a_place(rt: HostRuntime) -> Result<(), Fail> {
         panic!(rt; "no Table")
     };
     let mut row = RowBuf::make(alloc, &trace.schema)?;
-    let (table, _hands, mut seat) = create(alloc, trace.schema, 64, 100, 3)?;
+    let (table, _hands, mut seat) = opened(alloc, trace.schema, 64, 100, 3)?;
     make(&rt, alloc, &table, &mut seat, &mut row, "set 4242 n=2")?;
     make(&rt, alloc, &table, &mut seat, &mut row, "set 4161 n=1")?;
     let mut rows = Vec::new(alloc);
@@ -109,8 +109,8 @@ fn a_part_has_a_place(rt: HostRuntime) -> Result<(), Fail> {
         at: 2,
         reply: Reply::Count(2),
     };
-    assert!(rt; table.part(&mut seat, 0, &mut rows) == Ok(counted));
-    assert!(rt; table.part(&mut seat, 0, &mut rows) == Err(PartFault::Spent(3)));
+    assert!(rt; copied(&table, &mut seat, 0, &mut rows) == Ok(counted));
+    assert!(rt; copied(&table, &mut seat, 0, &mut rows) == Err(PartFault::Spent(3)));
     let [first, second] = rows.as_slice() else {
         panic!(rt; "not two rows")
     };
