@@ -1,5 +1,6 @@
 -- Where no number is refused, all numbers are right.
-use Rattle.std.proofs.Common.{◌≡◌, ℕ, zero, suc, ◌<◌, ◌==◌, Bool, true, false, if◌then◌else◌, List, [], ◌∷◌, length, map, All, Option, Some, None, refl, subst, arith}
+use Rattle.std.proofs.Common.{◌≡◌, ℕ, zero, suc, ◌<◌, ◌==◌, Bool, true, false, if◌then◌else◌, List, [], ◌∷◌, length, map, All, Option, Some, None, refl, ap, ◌∙◌, sym, arith}
+use Rattle.std.proofs.lemmas.List.{length-map}
 use Rattle.std.proofs.lemmas.List.Elements.{All-nil, All-cons}
 use Rattle.sw_lists.proofs.Lists.{eq_is, eq_same}
 use Rattle.sw_settings.specs.declared.values.Values.{Values}
@@ -26,10 +27,21 @@ some_handler : (n : ℕ) → (n == 0) ≡ false → 0 < n
 some_handler zero e = absurd (let q : (zero == 0) ≡ true = eq_same zero 0 refl in cc)
 some_handler (suc n) e = omega arith
 
+handled_first : {X H : Type 0} (items : X → List H) (x : X) (xs : List X) (b : Bool) → (length (items x) == 0) ≡ b → (if b then Some (Count Generations 1 0) else unhandled (map items xs)) ≡ None → (unhandled (map items xs) ≡ None → All (λ y. 0 < length (items y)) xs) → All (λ y. 0 < length (items y)) (x ∷ xs)
+handled_first items x xs true q h rest = absurd (cc)
+handled_first {X} items x xs false q h rest = All-cons (λ (y : X). 0 < length (items y)) x xs (some_handler (length (items x)) q) (rest h)
+
+-- a handler in each list
 pub handled : {X H : Type 0} (items : X → List H) (xs : List X) → unhandled (map items xs) ≡ None → All (λ x. 0 < length (items x)) xs
-handled {X} {H} items [] e = All-nil (λ (x : X). 0 < length (items x))
-handled {X} {H} items (x ∷ xs) e = pick (length (items x) == 0) refl e
-  where
-    pick : (b : Bool) → (length (items x) == 0) ≡ b → (if b then Some (Count Generations 1 0) else unhandled (map items xs)) ≡ None → All (λ y. 0 < length (items y)) (x ∷ xs)
-    pick true q h = absurd (cc)
-    pick false q h = All-cons (λ (y : X). 0 < length (items y)) x xs (some_handler (length (items x)) q) (handled items xs h)
+handled {X} items [] e = All-nil (λ (x : X). 0 < length (items x))
+handled items (x ∷ xs) e = handled_first items x xs (length (items x) == 0) refl e (λ h. handled items xs h)
+
+-- what is counted
+pub counts : {X H : Type 0} (items : X → List H) (v : Values) (workers : List X) (taskers w k : ℕ) (lists tasks first : Option WorldFault) → w ≡ v.worker_num → k ≡ v.task_worker_num → lists ≡ unhandled (map items workers) → tasks ≡ or_next Taskers k taskers lists → first ≡ or_next Workers w (length workers) tasks → first ≡ count_fault v (map items workers) taskers
+counts items v workers taskers w k lists tasks first ew ek el et ef =
+    ef
+    ∙ ap (λ (x : Option WorldFault). or_next Workers w (length workers) x) et
+    ∙ ap (λ (x : Option WorldFault). or_next Workers w (length workers) (or_next Taskers k taskers x)) el
+    ∙ ap (λ (n : ℕ). or_next Workers w (length workers) (or_next Taskers n taskers (unhandled (map items workers)))) ek
+    ∙ ap (λ (n : ℕ). or_next Workers n (length workers) (or_next Taskers v.task_worker_num taskers (unhandled (map items workers)))) ew
+    ∙ ap (λ (n : ℕ). or_next Workers v.worker_num n (or_next Taskers v.task_worker_num taskers (unhandled (map items workers)))) (sym (length-map workers items))

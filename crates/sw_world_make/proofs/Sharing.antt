@@ -1,5 +1,5 @@
 -- The front, the reactors, and what all actors share, before any step.
-use Rattle.std.proofs.Common.{◌≡◌, ℕ, ◌+◌, ◌<◌, ◌≤◌, ◌^◌, List, [], ◌∷◌, true, false, None, replicate, refl, ap, ◌∙◌, sym, subst, arith}
+use Rattle.std.proofs.Common.{◌≡◌, ℕ, zero, suc, ◌+◌, ◌<◌, ◌≤◌, ◌^◌, List, [], ◌∷◌, nat_lt, true, false, None, length, replicate, refl, ap, ◌∙◌, sym, subst, arith}
 use Rattle.std.specs.FinMap as map
 use Rattle.sw_column.specs.declared.column.Column.{Column}
 use Rattle.sw_conn.specs.declared.terms.Terms.{Terms as Seen}
@@ -16,11 +16,12 @@ use Rattle.sw_settings.specs.Columns.{columns_named}
 use Rattle.sw_settings.specs.Framings.{framing_of}
 use Rattle.sw_settings.specs.Values.{IsWithin}
 use Rattle.sw_table_laws.specs.Table.{Shape, LegalFrom, left_by}
-use Rattle.sw_table_laws.specs.Sizes.{raised, pool_of}
+use Rattle.sw_table_laws.specs.Sizes.{raised}
 use Rattle.sw_tmodel.specs.Plain.{PlainTable}
 use Rattle.sw_join.specs.Legal.{LegalFor}
 use Rattle.sw_reactor_table.specs.Reactor.{started}
 use Rattle.sw_world_ports.specs.Ports.{new_ports}
+use Rattle.sw_world_laws.proofs.Locals.{lt_test}
 use Rattle.sw_world_fits.specs.Table.{TableStands}
 use Rattle.sw_world_door.specs.Doors.{new_door}
 use Rattle.sw_world_places.specs.Links.{no_arrivals}
@@ -47,21 +48,20 @@ board_new v w k r a b ew ek er ea e =
     ∙ ap (λ (n : ℕ). plain_words (record { workers = v.worker_num; taskers = v.task_worker_num; actors = v.worker_num + v.task_worker_num + n + 1 }) 0 (replicate (v.worker_num + v.task_worker_num) false) false (replicate (v.worker_num + v.task_worker_num + n + 1) no_counts)) er
 
 -- a Table without calls
-table_of : Values → PlainTable
-table_of v = record { columns = columns_named v.table_columns; size = raised v.table_size; percent = v.table_percent; last_call = v.table_last_call; calls = 0; state = map.empty }
+abbrev table_with : List Column → ℕ → ℕ → ℕ → PlainTable
+table_with cols size percent last = record { columns = cols; size = raised size; percent = percent; last_call = last; calls = 0; state = map.empty }
 
-table_new : (v : Values) → TableStands (terms_of v) (shape_of v) (table_of v) []
-unfolding left_by table_of
+table_new : (v : Values) → TableStands (terms_of v) (shape_of v) (table_with (columns_named v.table_columns) v.table_size v.table_percent v.table_last_call) []
+unfolding left_by
 table_new v = record { same = refl; columns = refl; rows = refl; calls = refl; last = refl; within = omega arith }
 
-pub new_table : (v : Values) (columns : List Column) (size percent last : ℕ) (p : PlainTable) → columns ≡ columns_named v.table_columns → size ≡ v.table_size → percent ≡ v.table_percent → last ≡ v.table_last_call → p ≡ record { columns = columns; size = raised size; percent = percent; last_call = last; calls = 0; state = map.empty } → TableStands (terms_of v) (shape_of v) p []
-unfolding table_of
-new_table v columns size percent last p ec es ep el e =
-    let is : p ≡ table_of v = e
-        ∙ ap (λ (x : List Column). record { columns = x; size = raised size; percent = percent; last_call = last; calls = 0; state = map.empty }) ec
-        ∙ ap (λ (n : ℕ). record { columns = columns_named v.table_columns; size = raised n; percent = percent; last_call = last; calls = 0; state = map.empty }) es
-        ∙ ap (λ (n : ℕ). record { columns = columns_named v.table_columns; size = raised v.table_size; percent = n; last_call = last; calls = 0; state = map.empty }) ep
-        ∙ ap (λ (n : ℕ). record { columns = columns_named v.table_columns; size = raised v.table_size; percent = v.table_percent; last_call = n; calls = 0; state = map.empty }) el in
+pub new_table : (v : Values) (cols : List Column) (size percent last : ℕ) (p : PlainTable) → cols ≡ columns_named v.table_columns → size ≡ v.table_size → percent ≡ v.table_percent → last ≡ v.table_last_call → p ≡ table_with cols size percent last → TableStands (terms_of v) (shape_of v) p []
+new_table v cols size percent last p ec es ep el e =
+    let is : p ≡ table_with (columns_named v.table_columns) v.table_size v.table_percent v.table_last_call = e
+        ∙ ap (λ (x : List Column). table_with x size percent last) ec
+        ∙ ap (λ (n : ℕ). table_with (columns_named v.table_columns) n percent last) es
+        ∙ ap (λ (n : ℕ). table_with (columns_named v.table_columns) v.table_size n last) ep
+        ∙ ap (λ (n : ℕ). table_with (columns_named v.table_columns) v.table_size v.table_percent n) el in
     subst (λ (q : PlainTable). TableStands (terms_of v) (shape_of v) q []) (sym is) (table_new v)
 
 pub no_calls : (shape : Shape) → LegalFor shape []
@@ -74,6 +74,14 @@ new_reactors v s f size count all es ef ec some h =
     (subst (λ (n : ℕ). AreNew (seen (terms_of v)) (framing_of v) size n all) ec
     (subst (λ (x : Framing). AreNew (seen (terms_of v)) x size count all) ef
     (subst (λ (x : Seen). AreNew x f size count all) es h)))
+
+pub some_columns : (cols : List Column) (n : ℕ) → n ≡ length cols → nat_lt 0 n ≡ is_some_table cols
+some_columns [] n e = none n e
+  where
+    none : (k : ℕ) → k ≡ 0 → nat_lt 0 k ≡ false
+    none zero q = refl
+    none (suc k) q = absurd (omega (arith, q))
+some_columns (c ∷ cs) n e = lt_test 0 n (let q : n ≡ length (c ∷ cs) = e in omega (arith, q))
 
 pub house_fits : (v : Values) (h : House) (cols : List Column) → h.mode ≡ v.dispatch_mode → h.max_conn ≡ v.max_conn → h.reactors ≡ v.reactor_num → h.workers ≡ v.worker_num → h.taskers ≡ v.task_worker_num → h.table ≡ is_some_table cols → cols ≡ columns_named v.table_columns → HouseFits (terms_of v) h
 house_fits v h cols mode slots reactors workers taskers table are = record { mode = mode; max_conn = slots; reactors = reactors; workers = workers; taskers = taskers; table = table ∙ ap is_some_table are }

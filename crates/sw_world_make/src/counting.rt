@@ -47,10 +47,11 @@ pub(crate) fn count_fault<H, T>(
         taskers.len() as u64,
         generations,
     );
-    or_next(
+    let first = or_next(
         Part::Workers,
         settings.worker_num() as u64,
         workers.len() as u64,
         tasks,
-    )
+    );
+    first
 }

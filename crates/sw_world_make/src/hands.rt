@@ -67,7 +67,7 @@ fn add_tasker<T: Drop>(
     all: &mut Taskers<Logged<T>>,
     handler: T,
 ) -> Result<(), OutOfMemory>
-    requires few { length all.old < 2 ^ 32 }
+    requires { length all.old < 2 ^ 32 }
     ensures { OnOk result (AddsTasker settings.now handler all.old all.new) }
 {
     let seen = house(settings);
@@ -82,7 +82,7 @@ pub(crate) fn taskers<T: Drop>(
     settings: &Settings,
     given: Vec<T>,
 ) -> Result<Taskers<Logged<T>>, OutOfMemory>
-    requires few { length given.items < 2 ^ 32 }
+    requires { length given.items < 2 ^ 32 }
     ensures { IfOk result (λ all. AreTaskers settings.now given.items all) }
 {
     let mut all = Taskers::new(alloc);

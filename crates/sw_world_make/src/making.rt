@@ -28,7 +28,7 @@ fn assembled<H: Drop, T: Drop>(
     tasks: Vec<T>,
 ) -> Result<Made<Logged<H>, Logged<T>>, OutOfMemory>
     requires { count_fault settings.now (map (λ hs. hs.items) given.items) (length tasks.items) ≡ None }
-    ensures new { IfOk result (λ m. IsNewCore (terms_of settings.now) (crews_of settings.now (map (λ hs. hs.items) given.items)) (shape_of settings.now) logged_views (parts_of m)) }
+    ensures starts { IfOk result (λ m. IsNewCore (terms_of settings.now) (crews_of settings.now (map (λ hs. hs.items) given.items)) (shape_of settings.now) logged_views (parts_of m)) }
     ensures ready { IfOk result (λ m. IsReady (terms_of settings.now) m) }
     ensures workers { IfOk result (λ m. map handlers_of m.crew.workers ≡ map (λ hs. hs.items) given.items) }
     ensures taskers { IfOk result (λ m. map handler_of m.crew.taskers ≡ tasks.items) }
@@ -72,7 +72,7 @@ pub fn make<H: Drop, T: Drop>(
     ensures legal { LegalFor (shape_of settings.now) [] }
     ensures counted { IfOk result (λ m. count_fault settings.now (map (λ hs. hs.items) workers.items) (length taskers.items) ≡ None) }
     ensures refused { IfErr result (IsRefusal (count_fault settings.now (map (λ hs. hs.items) workers.items) (length taskers.items))) }
-    ensures new { IfOk result (λ m. IsNewCore (terms_of settings.now) (crews_of settings.now (map (λ hs. hs.items) workers.items)) (shape_of settings.now) logged_views (parts_of m)) }
+    ensures starts { IfOk result (λ m. IsNewCore (terms_of settings.now) (crews_of settings.now (map (λ hs. hs.items) workers.items)) (shape_of settings.now) logged_views (parts_of m)) }
     ensures ready { IfOk result (λ m. IsReady (terms_of settings.now) m) }
     ensures workers { IfOk result (λ m. map handlers_of m.crew.workers ≡ map (λ hs. hs.items) workers.items) }
     ensures taskers { IfOk result (λ m. map handler_of m.crew.taskers ≡ taskers.items) }

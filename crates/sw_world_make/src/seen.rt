@@ -2,7 +2,7 @@
 ghost use Rattle.std.specs.Prelude.{◌≡◌, ◌<◌, ◌≤◌, ◌+◌, ◌^◌, []};
 ghost use Rattle.sw_join.specs.Legal.{LegalFor};
 ghost use Rattle.sw_hand.specs.House.{IsHouse};
-ghost use Rattle.sw_conn_fits.specs.Shown.{settings as seen};
+ghost use Rattle.sw_conn_fits.specs.Shown.{settings as settings_of};
 ghost use Rattle.sw_hand_fits.specs.Matches.{HouseFits, is_some_table};
 ghost use Rattle.sw_world_steps.specs.Server.{IsServed};
 ghost use Rattle.sw_world_make.specs.Terms.{terms_of, shape_of};
@@ -30,7 +30,7 @@ pub(crate) fn served(settings: &Settings)
 
 /// The settings as connections see them.
 pub(crate) fn terms(settings: &Settings) -> Terms
-    ensures value { result ≡ seen (terms_of settings.now) }
+    ensures value { result ≡ settings_of (terms_of settings.now) }
     ensures workers { 0 < result.worker_num }
     ensures slots { 0 < result.max_conn }
 {
@@ -46,10 +46,7 @@ pub(crate) fn terms(settings: &Settings) -> Terms
 fn has_columns(schema: &Schema) -> bool
     ensures { result ≡ is_some_table schema.now }
 {
-    match schema.columns() {
-        [] => false,
-        [_, ..] => true,
-    }
+    schema.len() > 0
 }
 
 /// The settings as workers and task workers see them.

@@ -12,8 +12,8 @@ workers-requires-clause-few g c = few_lists (λ hs. hs.items) c.args.settings.no
 pub taskers-requires : goal.taskers-requires
 taskers-requires g c = few_handlers c.args.settings.now (length c.args.tasks.items) (counted c.args.settings.now (map (λ hs. hs.items) c.args.given.items) (length c.args.tasks.items) c.requires).1.0 c.served.ensures.few
 
-pub returns-clause-new : goal.returns-clause-new
-returns-clause-new g c =
+pub returns-clause-starts : goal.returns-clause-starts
+returns-clause-starts g c =
     let right = counted c.args.settings.now (map (λ hs. hs.items) c.args.given.items) (length c.args.tasks.items) c.requires in
     new_core c.args.settings.now (map (λ hs. hs.items) c.args.given.items) c.args.tasks.items _ right.0 right.1.0 c.in_ok-front.ensures c.in_ok-places.ensures c.in_ok-book.ensures c.in_ok-board.ensures c.in_ok-shelf.ensures c.in_ok-reactors.ensures c.in_ok-workers.ensures c.in_ok-taskers.ensures
 
