@@ -58,10 +58,10 @@ table_new v = record { same = refl; columns = refl; rows = refl; calls = refl; l
 pub new_table : (v : Values) (cols : List Column) (size percent last : ℕ) (p : PlainTable) → cols ≡ columns_named v.table_columns → size ≡ v.table_size → percent ≡ v.table_percent → last ≡ v.table_last_call → p ≡ table_with cols size percent last → TableStands (terms_of v) (shape_of v) p []
 new_table v cols size percent last p ec es ep el e =
     let is : p ≡ table_with (columns_named v.table_columns) v.table_size v.table_percent v.table_last_call = e
-        ∙ ap (λ (x : List Column). table_with x size percent last) ec
-        ∙ ap (λ (n : ℕ). table_with (columns_named v.table_columns) n percent last) es
-        ∙ ap (λ (n : ℕ). table_with (columns_named v.table_columns) v.table_size n last) ep
-        ∙ ap (λ (n : ℕ). table_with (columns_named v.table_columns) v.table_size v.table_percent n) el in
+    ∙ ap (λ (x : List Column). table_with x size percent last) ec
+    ∙ ap (λ (n : ℕ). table_with (columns_named v.table_columns) n percent last) es
+    ∙ ap (λ (n : ℕ). table_with (columns_named v.table_columns) v.table_size n last) ep
+    ∙ ap (λ (n : ℕ). table_with (columns_named v.table_columns) v.table_size v.table_percent n) el in
     subst (λ (q : PlainTable). TableStands (terms_of v) (shape_of v) q []) (sym is) (table_new v)
 
 pub no_calls : (shape : Shape) → LegalFor shape []

@@ -47,7 +47,11 @@ impl fmt::Display for WorldFault {
     fn fmt<W: fmt::Write>(&self, f: &mut fmt::Formatter<W>) -> fmt::Result {
         match self {
             WorldFault::Count(part, need, given) => {
-                write!(f, "{need} {} are needed, and {given} were given", words(*part))
+                write!(
+                    f,
+                    "{need} {} are needed, and {given} were given",
+                    words(*part)
+                )
             }
             WorldFault::OutOfMemory => f.write_str("memory ran out"),
         }

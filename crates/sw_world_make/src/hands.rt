@@ -33,13 +33,7 @@ fn add_worker<H: Drop>(
 {
     let line = logged(alloc, handlers)?;
     let seen = house(settings);
-    all.add(
-        alloc,
-        line,
-        settings.max_request(),
-        settings.schema(),
-        seen,
-    )?;
+    all.add(alloc, line, settings.max_request(), settings.schema(), seen)?;
     Ok(())
 }
 
