@@ -37,10 +37,12 @@ handled {X} items [] e = All-nil (λ (x : X). 0 < length (items x))
 handled items (x ∷ xs) e = handled_first items x xs (length (items x) == 0) refl e (λ h. handled items xs h)
 
 -- what is counted
-pub counts : {X H : Type 0} (items : X → List H) (v : Values) (workers : List X) (taskers w k : ℕ) (lists tasks first : Option WorldFault) → w ≡ v.worker_num → k ≡ v.task_worker_num → lists ≡ unhandled (map items workers) → tasks ≡ or_next Taskers k taskers lists → first ≡ or_next Workers w (length workers) tasks → first ≡ count_fault v (map items workers) taskers
-counts items v workers taskers w k lists tasks first ew ek el et ef =
+pub counts : {X H : Type 0} (items : X → List H) (v : Values) (workers : List X) (taskers w k many more : ℕ) (lists tasks first : Option WorldFault) → many ≡ length workers → more ≡ taskers → w ≡ v.worker_num → k ≡ v.task_worker_num → lists ≡ unhandled (map items workers) → tasks ≡ or_next Taskers k more lists → first ≡ or_next Workers w many tasks → first ≡ count_fault v (map items workers) taskers
+counts items v workers taskers w k many more lists tasks first em er ew ek el et ef =
     ef
+    ∙ ap (λ (n : ℕ). or_next Workers w n tasks) em
     ∙ ap (λ (x : Option WorldFault). or_next Workers w (length workers) x) et
+    ∙ ap (λ (n : ℕ). or_next Workers w (length workers) (or_next Taskers k n lists)) er
     ∙ ap (λ (x : Option WorldFault). or_next Workers w (length workers) (or_next Taskers k taskers x)) el
     ∙ ap (λ (n : ℕ). or_next Workers w (length workers) (or_next Taskers n taskers (unhandled (map items workers)))) ek
     ∙ ap (λ (n : ℕ). or_next Workers n (length workers) (or_next Taskers v.task_worker_num taskers (unhandled (map items workers)))) ew

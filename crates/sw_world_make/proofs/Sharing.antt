@@ -1,5 +1,5 @@
 -- The front, the reactors, and what all actors share, before any step.
-use Rattle.std.proofs.Common.{◌≡◌, ℕ, zero, suc, ◌+◌, ◌<◌, ◌≤◌, ◌^◌, List, [], ◌∷◌, nat_lt, true, false, None, length, replicate, refl, ap, ◌∙◌, sym, subst, arith}
+use Rattle.std.proofs.Common.{◌≡◌, ℕ, ◌+◌, ◌<◌, ◌≤◌, ◌^◌, List, [], ◌∷◌, true, false, None, replicate, refl, ap, ◌∙◌, sym, subst, arith}
 use Rattle.std.specs.FinMap as map
 use Rattle.sw_column.specs.declared.column.Column.{Column}
 use Rattle.sw_conn.specs.declared.terms.Terms.{Terms as Seen}
@@ -21,7 +21,6 @@ use Rattle.sw_tmodel.specs.Plain.{PlainTable}
 use Rattle.sw_join.specs.Legal.{LegalFor}
 use Rattle.sw_reactor_table.specs.Reactor.{started}
 use Rattle.sw_world_ports.specs.Ports.{new_ports}
-use Rattle.sw_world_laws.proofs.Locals.{lt_test}
 use Rattle.sw_world_fits.specs.Table.{TableStands}
 use Rattle.sw_world_door.specs.Doors.{new_door}
 use Rattle.sw_world_places.specs.Links.{no_arrivals}
@@ -74,14 +73,6 @@ new_reactors v s f size count all es ef ec some h =
     (subst (λ (n : ℕ). AreNew (seen (terms_of v)) (framing_of v) size n all) ec
     (subst (λ (x : Framing). AreNew (seen (terms_of v)) x size count all) ef
     (subst (λ (x : Seen). AreNew x f size count all) es h)))
-
-pub some_columns : (cols : List Column) (n : ℕ) → n ≡ length cols → nat_lt 0 n ≡ is_some_table cols
-some_columns [] n e = none n e
-  where
-    none : (k : ℕ) → k ≡ 0 → nat_lt 0 k ≡ false
-    none zero q = refl
-    none (suc k) q = absurd (omega (arith, q))
-some_columns (c ∷ cs) n e = lt_test 0 n (let q : n ≡ length (c ∷ cs) = e in omega (arith, q))
 
 pub house_fits : (v : Values) (h : House) (cols : List Column) → h.mode ≡ v.dispatch_mode → h.max_conn ≡ v.max_conn → h.reactors ≡ v.reactor_num → h.workers ≡ v.worker_num → h.taskers ≡ v.task_worker_num → h.table ≡ is_some_table cols → cols ≡ columns_named v.table_columns → HouseFits (terms_of v) h
 house_fits v h cols mode slots reactors workers taskers table are = record { mode = mode; max_conn = slots; reactors = reactors; workers = workers; taskers = taskers; table = table ∙ ap is_some_table are }

@@ -46,7 +46,10 @@ pub(crate) fn terms(settings: &Settings) -> Terms
 fn has_columns(schema: &Schema) -> bool
     ensures { result ≡ is_some_table schema.now }
 {
-    schema.len() > 0
+    match schema.columns() {
+        [] => false,
+        [_, ..] => true,
+    }
 }
 
 /// The settings as workers and task workers see them.
