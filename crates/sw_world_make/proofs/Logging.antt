@@ -1,6 +1,6 @@
 -- Handlers with empty logs, one by one.
-use Rattle.std.proofs.Common.{◌≡◌, ℕ, zero, suc, List, [], ◌∷◌, ◌++◌, length, map, replicate, refl, ap, ◌∙◌, sym, subst}
-use Rattle.std.proofs.lemmas.List.{map-append}
+use Rattle.std.proofs.Common.{◌≡◌, ℕ, zero, suc, List, [], ◌∷◌, ◌++◌, ◌<◌, length, map, replicate, refl, ap, ◌∙◌, sym, subst, arith}
+use Rattle.std.proofs.lemmas.List.{map-append, length-map}
 use Rattle.sw_handler.specs.declared.logged.Logged.{Logged}
 use Rattle.sw_handler.specs.Log.{inner_of, log_of}
 use Rattle.sw_world_make.specs.Handlers.{AreLogged}
@@ -28,3 +28,10 @@ one_logged {H} given x all more l e inner log h =
       map-append inner_of all (l ∷ []) ∙ ap (λ (ys : List H). ys ++ inner_of l ∷ []) h.0 ∙ ap (λ (y : H). given ++ y ∷ []) inner,
       silent_more log_of all l log h.1,
     )
+
+-- as many as were given
+pub some_logged : {H : Type 0} (given : List H) (all : List (Logged H)) → 0 < length given → AreLogged given all → 0 < length all
+some_logged given all some h =
+    let many : length (map inner_of all) ≡ length all = length-map all inner_of in
+    let same : length (map inner_of all) ≡ length given = ap length h.0 in
+    omega (arith, many, same, some)
