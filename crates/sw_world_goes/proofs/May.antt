@@ -44,11 +44,11 @@ use Rattle.sw_world_steps.specs.Server.{IsServed, server, AState}
 use Rattle.sw_world_steps.specs.Shared.{SharedStands}
 use Rattle.sw_world_steps.proofs.Reactors.{reactor_before}
 use Rattle.sw_world_whole.specs.Whole.{Stands}
-use Rattle.sw_world.specs.declared.state.State.{State}
-use Rattle.sw_world.specs.State.{parts_of, views}
-use Rattle.sw_world.specs.Feeding.{FeedsTaken}
-use Rattle.sw_world.specs.Turning.{MakesRoom, MayTurnAs}
-use Rattle.sw_world.specs.Steps.{on_turn, MayGo, MayStep}
+use Rattle.sw_world_state.specs.declared.state.State.{State}
+use Rattle.sw_world_state.specs.State.{parts_of, views}
+use Rattle.sw_world_state.specs.Feeding.{FeedsTaken}
+use Rattle.sw_world_state.specs.Turning.{MakesRoom, MayTurnAs}
+use Rattle.sw_world_state.specs.Steps.{on_turn, MayGo, MayStep}
 use Rattle.sw_world_goes.specs.Ready.{Ready}
 use Rattle.sw_world_goes.proofs.Lists.{get_less}
 use Rattle.sw_world_goes.proofs.Went.{number_by, fed_same_got, fed_new}

@@ -45,11 +45,11 @@ use Rattle.sw_world_whole.specs.Scripts.{fed, message_fed, got_fed}
 use Rattle.sw_world_whole.proofs.Calls.{calls}
 use Rattle.sw_world_whole.proofs.Fed.{got_same, got_new, reactor_stays, front_stays}
 use Rattle.sw_world_whole.proofs.Going.{door_turns, reactor_turns, worker_turns, tasker_turns}
-use Rattle.sw_world.specs.declared.state.State.{State}
-use Rattle.sw_world.specs.State.{parts_of, views}
-use Rattle.sw_world.specs.Feeding.{FeedsMessage, FeedsTaken}
-use Rattle.sw_world.specs.Turning.{MakesRoom, ReactorTurns, TurnsAs}
-use Rattle.sw_world.specs.Steps.{on_turn, Turns, GoesBy, GoesFrom}
+use Rattle.sw_world_state.specs.declared.state.State.{State}
+use Rattle.sw_world_state.specs.State.{parts_of, views}
+use Rattle.sw_world_state.specs.Feeding.{FeedsMessage, FeedsTaken}
+use Rattle.sw_world_state.specs.Turning.{MakesRoom, ReactorTurns, TurnsAs}
+use Rattle.sw_world_state.specs.Steps.{on_turn, Turns, GoesBy, GoesFrom}
 use Rattle.sw_world_goes.specs.Ready.{Ready, Goes}
 use Rattle.sw_world_goes.proofs.Lists.{set_again, get_less, get_changed}
 
