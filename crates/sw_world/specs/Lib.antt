@@ -1,4 +1,1 @@
-pub mod State
-pub mod Feeding
-pub mod Turning
-pub mod Steps
+pub mod Standing

@@ -2,10 +2,6 @@
 //! says which actor goes next and what comes from outside.
 #![tactic(auto)]
 
-mod feeding;
-mod scripts;
-mod state;
-mod stepping;
-mod turning;
+mod world;
 
-pub use state::State;
+pub use world::World;

@@ -3,9 +3,11 @@
 #![tactic(auto)]
 
 mod crew;
+mod recorded;
 mod taskers;
 mod workers;
 
 pub use crew::Crew;
+pub use recorded::Recorded;
 pub use taskers::Taskers;
 pub use workers::Workers;

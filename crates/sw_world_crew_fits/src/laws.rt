@@ -30,6 +30,7 @@ ghost use Rattle.sw_world_hands.specs.Hands.{HandState, Crews, new_hand, hand_go
 ghost use Rattle.sw_world_hand_fits.specs.Plain.{plain_rules};
 ghost use Rattle.sw_world_hand_fits.specs.Hands.{Gone, Numbers, Tells};
 ghost use Rattle.sw_world_crew.specs.Hands.{MayTurn};
+ghost use Rattle.sw_world_crew.specs.Recorded.{log_of, recorded_acts};
 ghost use Rattle.sw_world_crew_fits.specs.Stand.{WorkerStands, WorkersStand, TaskerStands, TaskersStand};
 
 use sw_handler::Handler;
@@ -110,4 +111,10 @@ pub fn changed_taskers_stand<T>()
         (k : CodeHand T) → TaskersStand told t count all states → more ≡ slice_set all n k →
         ((m : ℕ) → ¬ (m ≡ n) → after m ≡ states m) → TaskerStands told t n k (after n) →
         TaskersStand told t count more after }
+{}
+
+/// A handler with its log acts on sessions other than 0, and tells each entry, whatever it runs.
+pub fn recorded_handlers_tell_and_act_on_sessions<H: Handler>()
+    ensures numbers { Numbers (recorded_acts H.acts) }
+    ensures tells { Tells log_of (recorded_acts H.acts) }
 {}

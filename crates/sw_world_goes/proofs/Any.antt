@@ -14,9 +14,9 @@ use Rattle.sw_world_front.specs.Front.{arrived, net_ended}
 use Rattle.sw_world_steps.specs.Server.{IsServed, AState}
 use Rattle.sw_world_whole.specs.Whole.{Stands}
 use Rattle.sw_world_whole.proofs.Coming.{arrives, net_ends}
-use Rattle.sw_world.specs.declared.state.State.{State}
-use Rattle.sw_world.specs.State.{parts_of, views}
-use Rattle.sw_world.specs.Steps.{Steps}
+use Rattle.sw_world_state.specs.declared.state.State.{State}
+use Rattle.sw_world_state.specs.State.{parts_of, views}
+use Rattle.sw_world_state.specs.Steps.{Steps}
 use Rattle.sw_world_goes.specs.Ready.{Ready, Goes}
 use Rattle.sw_world_goes.proofs.Scripted.{front_ready, script_goes}
 use Rattle.sw_world_goes.proofs.Went.{actor_goes}

@@ -44,11 +44,11 @@ use Rattle.sw_world_steps.specs.Server.{IsServed, server, AState}
 use Rattle.sw_world_steps.specs.Shared.{SharedStands}
 use Rattle.sw_world_steps.proofs.Reactors.{reactor_before}
 use Rattle.sw_world_whole.specs.Whole.{Stands}
-use Rattle.sw_world.specs.declared.state.State.{State}
-use Rattle.sw_world.specs.State.{parts_of, views}
-use Rattle.sw_world.specs.Feeding.{FeedsTaken}
-use Rattle.sw_world.specs.Turning.{MakesRoom, MayTurnAs}
-use Rattle.sw_world.specs.Steps.{on_turn, MayGo, MayStep}
+use Rattle.sw_world_state.specs.declared.state.State.{State}
+use Rattle.sw_world_state.specs.State.{parts_of, views}
+use Rattle.sw_world_state.specs.Feeding.{FeedsTaken}
+use Rattle.sw_world_state.specs.Turning.{MakesRoom, MayTurnAs}
+use Rattle.sw_world_state.specs.Steps.{on_turn, MayGo, MayStep}
 use Rattle.sw_world_goes.specs.Ready.{Ready}
 use Rattle.sw_world_goes.proofs.Lists.{get_less}
 use Rattle.sw_world_goes.proofs.Went.{number_by, fed_same_got, fed_new}
@@ -107,7 +107,11 @@ module _ {H T : Type 0} (t : Terms) (served : IsServed t) (crews : Crews) (shape
   turn_may : (y : ActorId) (got : Getting) (r : Rows) → there t y ≡ true → GoesRow s.places (number_of t y) (Some got) r → MayTurnAs y (on_turn (number_of t y) (record s { places = r })) got
   turn_may Door got r here goes =
       let d = st.shared.front.door in
-      (subst (λ (n : ℕ). 0 < n) (sym d.slots) served.slots, subst (λ (n : ℕ). 0 < n) (sym d.reactors) ready.some)
+      let slots : s.front.door.max_conn ≡ t.max_conn = d.slots in
+      let some : 1 ≤ t.max_conn = served.slots in
+      let reactors : s.front.door.reactors ≡ t.reactor_num = d.reactors in
+      let more : 1 ≤ t.reactor_num = ready.some in
+      (omega (arith, slots, some), omega (arith, reactors, more))
   turn_may (Reactor k) got r here goes =
       (subst (λ (n : ℕ). k < n) (sym ready.reactors) (test_lt k t.reactor_num here), λ owners made f room feeds. reactor_may k got made r owners f here goes room feeds)
   turn_may (Worker k) got r here goes =
@@ -141,9 +145,13 @@ module _ {H T : Type 0} (t : Terms) (served : IsServed t) (crews : Crews) (shape
   -- A STEP MAY BE MADE
   pub may_step : MayStep s
   may_step =
+      let slots : s.max_conn ≡ t.max_conn = ready.slots in
+      let some : 1 ≤ t.max_conn = served.slots in
+      let reactors : length s.reactors ≡ t.reactor_num = ready.reactors in
+      let more : 1 ≤ t.reactor_num = ready.some in
       record {
-        slots = subst (λ (n : ℕ). 0 < n) (sym ready.slots) served.slots;
-        reactors = subst (λ (n : ℕ). 0 < n) (sym ready.reactors) ready.some;
+        slots = omega (arith, slots, some);
+        reactors = omega (arith, reactors, more);
         turns = λ y at got r e goes. pick y at got r (there t y) refl (sym (number_by t s.places c.nexts c.pipes st.rows y) ∙ e) goes;
       }
     where

@@ -28,9 +28,9 @@ use Rattle.sw_world_whole.specs.Whole.{Stands, IsStep}
 use Rattle.sw_world_whole.proofs.Others.{one_same}
 use Rattle.sw_world_whole.proofs.Coming.{scripts, script_given}
 use Rattle.sw_world_whole.proofs.Fed.{fed_same}
-use Rattle.sw_world.specs.declared.state.State.{State}
-use Rattle.sw_world.specs.State.{parts_of, views}
-use Rattle.sw_world.specs.Feeding.{KeepsLeft, ScriptsBy, Scripts}
+use Rattle.sw_world_state.specs.declared.state.State.{State}
+use Rattle.sw_world_state.specs.State.{parts_of, views}
+use Rattle.sw_world_state.specs.Feeding.{KeepsLeft, ScriptsBy, Scripts}
 use Rattle.sw_world_goes.specs.Ready.{Ready, Goes}
 use Rattle.sw_world_goes.proofs.Lists.{set_here, get_less, get_changed}
 

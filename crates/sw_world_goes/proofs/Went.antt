@@ -6,6 +6,7 @@ use Rattle.sw_step.specs.declared.actor.ActorId.TheVariants.{Door, Reactor, Work
 use Rattle.sw_data.specs.declared.messages.Msg.TheVariants as msgs
 use Rattle.sw_data.specs.declared.messages.Got.TheVariants as gots
 use Rattle.sw_link.specs.declared.memory_link.LinkStep.{LinkStep}
+use Rattle.sw_link.specs.declared.memory_link.MemoryLink.{MemoryLink}
 use Rattle.sw_column.specs.declared.column.Column.{Column}
 use Rattle.sw_record.specs.Words.{Log}
 use Rattle.sw_record.specs.Terms.{Terms}
@@ -45,11 +46,11 @@ use Rattle.sw_world_whole.specs.Scripts.{fed, message_fed, got_fed}
 use Rattle.sw_world_whole.proofs.Calls.{calls}
 use Rattle.sw_world_whole.proofs.Fed.{got_same, got_new, reactor_stays, front_stays}
 use Rattle.sw_world_whole.proofs.Going.{door_turns, reactor_turns, worker_turns, tasker_turns}
-use Rattle.sw_world.specs.declared.state.State.{State}
-use Rattle.sw_world.specs.State.{parts_of, views}
-use Rattle.sw_world.specs.Feeding.{FeedsMessage, FeedsTaken}
-use Rattle.sw_world.specs.Turning.{MakesRoom, ReactorTurns, TurnsAs}
-use Rattle.sw_world.specs.Steps.{on_turn, Turns, GoesBy, GoesFrom}
+use Rattle.sw_world_state.specs.declared.state.State.{State}
+use Rattle.sw_world_state.specs.State.{parts_of, views}
+use Rattle.sw_world_state.specs.Feeding.{FeedsMessage, FeedsTaken}
+use Rattle.sw_world_state.specs.Turning.{MakesRoom, ReactorTurns, TurnsAs}
+use Rattle.sw_world_state.specs.Steps.{on_turn, Turns, GoesBy, GoesFrom}
 use Rattle.sw_world_goes.specs.Ready.{Ready, Goes}
 use Rattle.sw_world_goes.proofs.Lists.{set_again, get_less, get_changed}
 
@@ -61,29 +62,29 @@ number_by t r nexts pipes h (Worker n) = rw (h.workers, zero-add) refl
 number_by t r nexts pipes h (Tasker n) = rw (h.workers, h.taskers) refl
 
 -- what a reactor's turn begins with: a link with the steps that were kept for it
-record Fed (t : Terms) (f : Front) (got made : Getting) (g : Front) : Type 0 where
-  steps : List LinkStep
-  made_is : made ≡ got_fed steps got
-  front : FrontSame t f g
+pub record Fed (t : Terms) (f : Front) (got made : Getting) (g : Front) : Type 0 where
+  pub steps : List LinkStep
+  pub made_is : made ≡ got_fed steps got
+  pub front : FrontSame t f g
 
 message_is : (t : Terms) (f g : Front) (m k : Sent) → FeedsMessage f m k g → Fed t f (gots.Took m) (gots.Took k) g
 message_is t f g (msgs.Fresh link ip ticket) k (l, ((ss, (takes, is, all)), made)) =
-    record { steps = ss; made_is = ap gots.Took (made ∙ ap (λ x. msgs.Fresh x ip ticket) all); front = front_stays t f g ticket ss is takes }
-message_is t f g (msgs.Send s b) k (made, is) = record { steps = []; made_is = ap gots.Took made; front = λ d p st. subst (λ x. FrontStands t x d p) (sym is) st }
-message_is t f g (msgs.Close s) k (made, is) = record { steps = []; made_is = ap gots.Took made; front = λ d p st. subst (λ x. FrontStands t x d p) (sym is) st }
-message_is t f g (msgs.Reset s) k (made, is) = record { steps = []; made_is = ap gots.Took made; front = λ d p st. subst (λ x. FrontStands t x d p) (sym is) st }
-message_is t f g (msgs.Bye s) k (made, is) = record { steps = []; made_is = ap gots.Took made; front = λ d p st. subst (λ x. FrontStands t x d p) (sym is) st }
-message_is t f g (msgs.Event e) k (made, is) = record { steps = []; made_is = ap gots.Took made; front = λ d p st. subst (λ x. FrontStands t x d p) (sym is) st }
-message_is t f g (msgs.Over id) k (made, is) = record { steps = []; made_is = ap gots.Took made; front = λ d p st. subst (λ x. FrontStands t x d p) (sym is) st }
-message_is t f g msgs.NoMore k (made, is) = record { steps = []; made_is = ap gots.Took made; front = λ d p st. subst (λ x. FrontStands t x d p) (sym is) st }
+    record { steps = ss; made_is = ap (λ (m : Sent). gots.Took m) (made ∙ ap (λ (x : MemoryLink). msgs.Fresh x ip ticket) all); front = front_stays t f g ticket ss is takes }
+message_is t f g (msgs.Send s b) k (made, is) = record { steps = []; made_is = ap (λ (m : Sent). gots.Took m) made; front = λ d p st. subst (λ (x : Front). FrontStands t x d p) (sym is) st }
+message_is t f g (msgs.Close s) k (made, is) = record { steps = []; made_is = ap (λ (m : Sent). gots.Took m) made; front = λ d p st. subst (λ (x : Front). FrontStands t x d p) (sym is) st }
+message_is t f g (msgs.Reset s) k (made, is) = record { steps = []; made_is = ap (λ (m : Sent). gots.Took m) made; front = λ d p st. subst (λ (x : Front). FrontStands t x d p) (sym is) st }
+message_is t f g (msgs.Bye s) k (made, is) = record { steps = []; made_is = ap (λ (m : Sent). gots.Took m) made; front = λ d p st. subst (λ (x : Front). FrontStands t x d p) (sym is) st }
+message_is t f g (msgs.Event e) k (made, is) = record { steps = []; made_is = ap (λ (m : Sent). gots.Took m) made; front = λ d p st. subst (λ (x : Front). FrontStands t x d p) (sym is) st }
+message_is t f g (msgs.Over id) k (made, is) = record { steps = []; made_is = ap (λ (m : Sent). gots.Took m) made; front = λ d p st. subst (λ (x : Front). FrontStands t x d p) (sym is) st }
+message_is t f g msgs.NoMore k (made, is) = record { steps = []; made_is = ap (λ (m : Sent). gots.Took m) made; front = λ d p st. subst (λ (x : Front). FrontStands t x d p) (sym is) st }
 
 pub fed_is : (t : Terms) (f g : Front) (got made : Getting) → FeedsTaken f got made g → Fed t f got made g
 fed_is t f g (gots.Took m) made (k, (h, is)) = let w = message_is t f g m k h in record { steps = w.steps; made_is = is ∙ w.made_is; front = w.front }
-fed_is t f g gots.Start made (e, is) = record { steps = []; made_is = e; front = λ d p st. subst (λ x. FrontStands t x d p) (sym is) st }
-fed_is t f g gots.Empty made (e, is) = record { steps = []; made_is = e; front = λ d p st. subst (λ x. FrontStands t x d p) (sym is) st }
-fed_is t f g gots.Pushed made (e, is) = record { steps = []; made_is = e; front = λ d p st. subst (λ x. FrontStands t x d p) (sym is) st }
-fed_is t f g (gots.Full m) made (e, is) = record { steps = []; made_is = e; front = λ d p st. subst (λ x. FrontStands t x d p) (sym is) st }
-fed_is t f g gots.Nothing made (e, is) = record { steps = []; made_is = e; front = λ d p st. subst (λ x. FrontStands t x d p) (sym is) st }
+fed_is t f g gots.Start made (e, is) = record { steps = []; made_is = e; front = λ d p st. subst (λ (x : Front). FrontStands t x d p) (sym is) st }
+fed_is t f g gots.Empty made (e, is) = record { steps = []; made_is = e; front = λ d p st. subst (λ (x : Front). FrontStands t x d p) (sym is) st }
+fed_is t f g gots.Pushed made (e, is) = record { steps = []; made_is = e; front = λ d p st. subst (λ (x : Front). FrontStands t x d p) (sym is) st }
+fed_is t f g (gots.Full m) made (e, is) = record { steps = []; made_is = e; front = λ d p st. subst (λ (x : Front). FrontStands t x d p) (sym is) st }
+fed_is t f g gots.Nothing made (e, is) = record { steps = []; made_is = e; front = λ d p st. subst (λ (x : Front). FrontStands t x d p) (sym is) st }
 
 pub fed_same_got : (t : Terms) (f g : Front) (got made : Getting) → FeedsTaken f got made g → got_of made ≡ got_of got
 fed_same_got t f g got made h = let w = fed_is t f g got made h in ap got_of w.made_is ∙ got_same w.steps got
@@ -149,7 +150,7 @@ module _ {H T : Type 0} (t : Terms) (served : IsServed t) (crews : Crews) (shape
   -- a turn of a worker
   worker_went : (k : ℕ) (got : Getting) (mid : Rows) (n m : State H T) (ask : Asking) → k < t.worker_num → GoesRow s.places (number_of t (Worker k)) (Some got) mid → TurnsAs acts does (Worker k) (on_turn (number_of t (Worker k)) (record s { places = mid })) got ask m →
       AtRow m.places (number_of t (Worker k)) (λ a b. b ≡ record a { next = Asked ask }) n.places → n ≡ record m { places = n.places } → Goes t served crews shape worker tasker c n
-  worker_went k got mid n m ask lt goes ((h, (g, (is0, (turn, hand, house, kind, row), all))), found, columns, is) asks e =
+  worker_went k got mid n m ask lt goes ((h, (g, (is0, (turn, (hand, house, kind, row)), all))), found, columns, is) asks e =
       let rows : m.places ≡ mid = ap (λ (x : State H T). x.places) is in
       let done : n ≡ record s { places = n.places; book = m.book; board = m.board; shelf = m.shelf; crew = record s.crew { workers = slice_set s.crew.workers k g } } =
       e ∙ ap (λ (x : State H T). record x { places = n.places }) is ∙ ap (λ (r : List (CodeHand (Line H))). record s { places = n.places; book = m.book; board = m.board; shelf = m.shelf; crew = record s.crew { workers = r } }) all in
@@ -165,7 +166,7 @@ module _ {H T : Type 0} (t : Terms) (served : IsServed t) (crews : Crews) (shape
   -- a turn of a task worker
   tasker_went : (k : ℕ) (got : Getting) (mid : Rows) (n m : State H T) (ask : Asking) → k < t.tasker_num → GoesRow s.places (number_of t (Tasker k)) (Some got) mid → TurnsAs acts does (Tasker k) (on_turn (number_of t (Tasker k)) (record s { places = mid })) got ask m →
       AtRow m.places (number_of t (Tasker k)) (λ a b. b ≡ record a { next = Asked ask }) n.places → n ≡ record m { places = n.places } → Goes t served crews shape worker tasker c n
-  tasker_went k got mid n m ask lt goes ((h, (g, (is0, (turn, hand, house, kind, row), all))), found, columns, is) asks e =
+  tasker_went k got mid n m ask lt goes ((h, (g, (is0, (turn, (hand, house, kind, row)), all))), found, columns, is) asks e =
       let rows : m.places ≡ mid = ap (λ (x : State H T). x.places) is in
       let done : n ≡ record s { places = n.places; book = m.book; board = m.board; shelf = m.shelf; crew = record s.crew { taskers = slice_set s.crew.taskers k g } } =
       e ∙ ap (λ (x : State H T). record x { places = n.places }) is ∙ ap (λ (r : List (CodeHand T)). record s { places = n.places; book = m.book; board = m.board; shelf = m.shelf; crew = record s.crew { taskers = r } }) all in

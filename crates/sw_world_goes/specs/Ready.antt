@@ -9,8 +9,8 @@ use Rattle.sw_world_steps.specs.Server.{IsServed, AState}
 use Rattle.sw_world_reactors.specs.declared.owner.Owner.{Owner}
 use Rattle.sw_world_reactors.specs.Owners.{IsReadyOwner}
 use Rattle.sw_world_whole.specs.Whole.{Stands, IsStep}
-use Rattle.sw_world.specs.declared.state.State.{State}
-use Rattle.sw_world.specs.State.{parts_of, views}
+use Rattle.sw_world_state.specs.declared.state.State.{State}
+use Rattle.sw_world_state.specs.State.{parts_of, views}
 
 -- the parts are as many as the settings say, few enough for 32 bits, and each reactor is ready for a turn
 pub record Ready {H T : Type 0} (t : Terms) (s : State H T) : Type 0 where

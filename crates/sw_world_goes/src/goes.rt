@@ -8,9 +8,9 @@ ghost use Rattle.sw_world_hands.specs.Hands.{Crews};
 ghost use Rattle.sw_world_hand_fits.specs.Hands.{Numbers, Tells};
 ghost use Rattle.sw_world_steps.specs.Server.{IsServed, AState};
 ghost use Rattle.sw_world_whole.specs.Whole.{Stands};
-ghost use Rattle.sw_world.specs.declared.state.State.{State};
-ghost use Rattle.sw_world.specs.State.{parts_of, views};
-ghost use Rattle.sw_world.specs.Steps.{Steps, MayStep};
+ghost use Rattle.sw_world_state.specs.declared.state.State.{State};
+ghost use Rattle.sw_world_state.specs.State.{parts_of, views};
+ghost use Rattle.sw_world_state.specs.Steps.{Steps, MayStep};
 ghost use Rattle.sw_world_goes.specs.Ready.{Ready, Goes};
 
 use sw_handler::Handler;

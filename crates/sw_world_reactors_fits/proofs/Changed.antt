@@ -100,19 +100,19 @@ step_same (steps.FailWrite n) l = record { pieces = refl; written = refl; at_end
 -- and leaves the reactor ready
 linked_keeps : {B : Type 0} (f : Conn MemoryLink ℕ → B) → ((c : Conn MemoryLink ℕ) (m : MemoryLink) → f (record c { link = m }) ≡ f c) → (s : ℕ) (m : MemoryLink) (cs : List (Conn MemoryLink ℕ)) → map f (linked s m cs) ≡ map f cs
 linked_keeps f h s m [] = refl
-linked_keeps {B} f h s m (c ∷ cs) = pick (c.session == s)
+linked_keeps {B} f h s m (c ∷ cs) = pick (c.session == s) (linked_keeps f h s m cs)
   where
-    pick : (b : Bool) → map f (if b then record c { link = m } ∷ cs else c ∷ linked s m cs) ≡ map f (c ∷ cs)
-    pick true = ap (λ (x : B). x ∷ map f cs) (h c m)
-    pick false = ap (λ (xs : List B). f c ∷ xs) (linked_keeps f h s m cs)
+    pick : (b : Bool) → map f (linked s m cs) ≡ map f cs → map f (if b then record c { link = m } ∷ cs else c ∷ linked s m cs) ≡ map f (c ∷ cs)
+    pick true rest = ap (λ (x : B). x ∷ map f cs) (h c m)
+    pick false rest = ap (λ (xs : List B). f c ∷ xs) rest
 
 linked_length : (s : ℕ) (m : MemoryLink) (cs : List (Conn MemoryLink ℕ)) → length (linked s m cs) ≡ length cs
 linked_length s m [] = refl
-linked_length s m (c ∷ cs) = pick (c.session == s)
+linked_length s m (c ∷ cs) = pick (c.session == s) (linked_length s m cs)
   where
-    pick : (b : Bool) → length (if b then record c { link = m } ∷ cs else c ∷ linked s m cs) ≡ length (c ∷ cs)
-    pick true = refl
-    pick false = ap (λ (n : ℕ). suc n) (linked_length s m cs)
+    pick : (b : Bool) → length (linked s m cs) ≡ length cs → length (if b then record c { link = m } ∷ cs else c ∷ linked s m cs) ≡ length (c ∷ cs)
+    pick true rest = refl
+    pick false rest = ap (λ (n : ℕ). suc n) rest
 
 pub linked_ready : (r : Reactor MemoryLink ℕ) (s : ℕ) (m : MemoryLink) → IsReady number r → IsReady number (record r { line = with_link r.line s m })
 linked_ready r s m h = record {

@@ -1,5 +1,5 @@
 //! All reactors beside the world's. The functions do nothing: their clauses are the theorems.
-ghost use Rattle.std.specs.Prelude.{◌≡◌, ℕ, ◌<◌, true, Bool, List, ◌∷◌, [], ◌++◌, Option, Result, slice_set};
+ghost use Rattle.std.specs.Prelude.{◌≡◌, ℕ, ◌<◌, true, Bool, List, ◌∷◌, [], ◌++◌, Option, Result, OnOk, slice_set};
 ghost use Rattle.sw_conn_fits.specs.Shown.{settings};
 ghost use Rattle.sw_data.specs.declared.ended.Ended.{Ended};
 ghost use Rattle.sw_link.specs.declared.memory_link.LinkStep.{LinkStep};
@@ -44,10 +44,11 @@ pub fn changed_reactors_stand()
 {}
 
 /// Room that is made among the ends of one changes nothing of this.
-pub fn made_room_stands()
-    ensures { (t : Terms) (all more : List Owner) (tables : ℕ → Table) (n : ℕ) (P : Owner → Type 0) → n < t.reactor_num →
-        ReactorsStand t all tables →
-        AtOwner all n (λ o q. (q.reactor ≡ o.reactor) × (q.ends.kept ≡ o.ends.kept) × P q) more → ReactorsStand t more tables }
+pub fn made_room_stands<F>()
+    ensures { (t : Terms) (all more : List Owner) (tables : ℕ → Table) (n : ℕ) (result : Result (Unit {0}) F) →
+        n < t.reactor_num → ReactorsStand t all tables →
+        AtOwner all n (λ o q. (q.reactor ≡ o.reactor) × (q.ends.kept ≡ o.ends.kept) × OnOk result (HasRoom q.ends)) more →
+        ReactorsStand t more tables }
 {}
 
 /// Nor does a step that is added to a link's script.

@@ -1,7 +1,7 @@
 //! Steps.
 ghost use Rattle.std.specs.Prelude.{◌≡◌, OnOk};
 ghost use Rattle.sw_step.specs.declared.step.Step.TheVariants.{Turn};
-ghost use Rattle.sw_world.specs.Steps.{Turns, Steps, MayGo, MayStep};
+ghost use Rattle.sw_world_state.specs.Steps.{Turns, Steps, MayGo, MayStep};
 
 use crate::state::State;
 use std::alloc::Global;

@@ -2,7 +2,7 @@
 use Rattle.sw_record.specs.Words.{Log}
 use Rattle.sw_world_reactors.specs.declared.owner.Owner.{Owner}
 use Rattle.sw_world_whole.specs.Parts.{Parts, Views}
-use Rattle.sw_world.specs.declared.state.State.{State}
+use Rattle.sw_world_state.specs.declared.state.State.{State}
 
 -- its parts
 abbrev pub parts_of : {H T : Type 0} → State H T → Parts Owner H T

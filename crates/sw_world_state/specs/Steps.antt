@@ -9,9 +9,9 @@ use Rattle.sw_world_places.specs.Pipes.{Asking, Getting}
 use Rattle.sw_world_places.specs.Places.{Rows, AtRow, Goes, number_in}
 use Rattle.sw_world_places.specs.declared.place.Next.TheVariants.{Asked}
 use Rattle.sw_world_front.specs.Front.{arrived, net_ended}
-use Rattle.sw_world.specs.declared.state.State.{State}
-use Rattle.sw_world.specs.Feeding.{Scripts}
-use Rattle.sw_world.specs.Turning.{TurnsAs, MayTurnAs}
+use Rattle.sw_world_state.specs.declared.state.State.{State}
+use Rattle.sw_world_state.specs.Feeding.{Scripts}
+use Rattle.sw_world_state.specs.Turning.{TurnsAs, MayTurnAs}
 
 -- on an actor's turn
 abbrev pub on_turn : {H T : Type 0} → ℕ → State H T → State H T

@@ -10,7 +10,7 @@ use Rattle.sw_world_places.specs.Pipes.{Sent, Getting}
 use Rattle.sw_world_front.specs.declared.front.Front.{Front}
 use Rattle.sw_world_reactors.specs.Owners.{AtOwner, Adds}
 use Rattle.sw_world_whole.specs.Scripts.{fed}
-use Rattle.sw_world.specs.declared.state.State.{State}
+use Rattle.sw_world_state.specs.declared.state.State.{State}
 
 -- a step that was given back is kept with the link
 abbrev pub KeepsLeft : ℕ → Option LinkStep → Front → Front → Type 0

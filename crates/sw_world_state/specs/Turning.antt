@@ -12,8 +12,8 @@ use Rattle.sw_world_front.specs.Front.{TurnsFront}
 use Rattle.sw_world_reactors.specs.declared.owner.Owner.{Owner}
 use Rattle.sw_world_reactors.specs.Owners.{AtOwner, MayTurn as ReactorMay, IsReadyOwner, TurnsOwner}
 use Rattle.sw_world_crew.specs.Hands.{AtHand, MayTurn as HandMay, GoesOn, plain_rules_of}
-use Rattle.sw_world.specs.declared.state.State.{State}
-use Rattle.sw_world.specs.Feeding.{FeedsTaken}
+use Rattle.sw_world_state.specs.declared.state.State.{State}
+use Rattle.sw_world_state.specs.Feeding.{FeedsTaken}
 
 -- room is made among a reactor's ends
 abbrev pub MakesRoom : List Owner → ℕ → List Owner → Type 0

@@ -1,7 +1,7 @@
 //! A turn of one actor.
 ghost use Rattle.std.specs.Prelude.{◌≡◌, IfOk};
 ghost use Rattle.sw_step.specs.declared.actor.ActorId.TheVariants.{Door, Reactor, Worker, Tasker};
-ghost use Rattle.sw_world.specs.Turning.{TurnsAs, MayTurnAs};
+ghost use Rattle.sw_world_state.specs.Turning.{TurnsAs, MayTurnAs};
 
 use crate::feeding::feed_taken;
 use crate::state::State;

@@ -1,7 +1,7 @@
 //! A link that comes to its reactor is given the steps that were kept for it.
 ghost use Rattle.std.specs.Prelude.{◌≡◌, IfOk, OnOk};
 ghost use Rattle.sw_world_whole.specs.Scripts.{fed};
-ghost use Rattle.sw_world.specs.Feeding.{FeedsLink, FeedsMessage, FeedsTaken};
+ghost use Rattle.sw_world_state.specs.Feeding.{FeedsLink, FeedsMessage, FeedsTaken};
 
 use std::alloc::Global;
 use sw_base::{OutOfMemory, Session};

@@ -1,6 +1,6 @@
 //! Steps of links' scripts.
 ghost use Rattle.std.specs.Prelude.{◌≡◌, ◌<◌, length, OnOk};
-ghost use Rattle.sw_world.specs.Feeding.{KeepsLeft, Scripts, ScriptsBy};
+ghost use Rattle.sw_world_state.specs.Feeding.{KeepsLeft, Scripts, ScriptsBy};
 
 use crate::state::State;
 use sw_base::{OutOfMemory, Session};
