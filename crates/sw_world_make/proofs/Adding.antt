@@ -10,8 +10,8 @@ use Rattle.sw_settings.specs.declared.values.Values.{Values}
 use Rattle.sw_settings.specs.Columns.{columns_named}
 use Rattle.sw_record.specs.Words.{Log}
 use Rattle.sw_record.specs.Terms.{Terms}
-use Rattle.sw_handler.specs.declared.logged.Logged.{Logged}
-use Rattle.sw_handler.specs.Log.{inner_of, log_of}
+use Rattle.sw_world_crew.specs.declared.recorded.Recorded.{Recorded}
+use Rattle.sw_world_crew.specs.Recorded.{inner_of, log_of}
 use Rattle.sw_hand.specs.House.{IsHouse}
 use Rattle.sw_hand.specs.declared.hand.Hand.{Hand as CodeHand}
 use Rattle.sw_hand.specs.declared.house.House.{House}
@@ -24,7 +24,7 @@ use Rattle.sw_world_crew_fits.specs.Stand.{WorkerStands, WorkersStand, TaskersSt
 use Rattle.sw_world_crew_fits.proofs.Workers.{no_workers, add_worker}
 use Rattle.sw_world_crew_fits.proofs.Taskers.{no_taskers, add_tasker}
 use Rattle.sw_world_make.specs.Terms.{terms_of}
-use Rattle.sw_world_make.specs.Handlers.{left_of, crews_by, AreLogged, WorkersNew, handlers_of, AreWorkers, AddsWorker, handler_of, AreTaskers}
+use Rattle.sw_world_make.specs.Handlers.{left_of, crews_by, AreRecorded, WorkersNew, handlers_of, AreWorkers, AddsWorker, handler_of, AreTaskers}
 
 -- where one worker more is given, the others have what they had
 left_before : (ks : List ℕ) (k n : ℕ) → n < length ks → left_of (ks ++ k ∷ []) n ≡ left_of ks n
@@ -46,57 +46,57 @@ same_left told t limit ks js count all same h = record {
   each = λ n lt. let o = h.each n lt in (o.0, (o.1.0, subst (λ (k : ℕ). WorkerStands told t (crews_by limit js) n o.0 (new_hand k)) (sym (same n lt)) (recrewed told t limit ks js n o.0 (new_hand (left_of ks n)) o.1.1)));
 }
 
-worker_more : {H : Type 0} (v : Values) (ks : List ℕ) (k count : ℕ) (logged : List (Logged H)) (row : List Value) (house : House) (all : List (CodeHand (Line (Logged H)))) → length ks ≡ count → WorkersNew v ks count all → 0 < k → length logged ≡ k → map log_of logged ≡ replicate (length logged) [] → HouseFits (terms_of v) house → IsHouse house → HasKinds (columns_named v.table_columns) row → WorkersNew v (ks ++ k ∷ []) (count + 1) (all ++ worker_started 0 count logged v.max_request row house ∷ [])
-worker_more {H} v ks k count logged row house all len h some many silent fits is kinds =
+worker_more : {H : Type 0} (v : Values) (ks : List ℕ) (k count : ℕ) (recorded : List (Recorded H)) (row : List Value) (house : House) (all : List (CodeHand (Line (Recorded H)))) → length ks ≡ count → WorkersNew v ks count all → 0 < k → length recorded ≡ k → map log_of recorded ≡ replicate (length recorded) [] → HouseFits (terms_of v) house → IsHouse house → HasKinds (columns_named v.table_columns) row → WorkersNew v (ks ++ k ∷ []) (count + 1) (all ++ worker_started 0 count recorded v.max_request row house ∷ [])
+worker_more {H} v ks k count recorded row house all len h some many silent fits is kinds =
     let last : left_of (ks ++ k ∷ []) count ≡ k - 1 = subst (λ (n : ℕ). left_of (ks ++ k ∷ []) n ≡ k - 1) len (left_last ks k) in
-    let left : length logged ≡ left_of (ks ++ k ∷ []) count + 1 = omega (arith, last, many, some) in
+    let left : length recorded ≡ left_of (ks ++ k ∷ []) count + 1 = omega (arith, last, many, some) in
     let others : WorkersNew v (ks ++ k ∷ []) count all = same_left log_of (terms_of v) v.max_request ks (ks ++ k ∷ []) count all (λ n lt. left_before ks k n (omega (arith, lt, len))) h in
-    add_worker log_of (terms_of v) (crews_by v.max_request (ks ++ k ∷ [])) all count logged row house others is fits left silent kinds
+    add_worker log_of (terms_of v) (crews_by v.max_request (ks ++ k ∷ [])) all count recorded row house others is fits left silent kinds
 
-pub no_worker : {H : Type 0} (v : Values) (all : List (CodeHand (Line (Logged H)))) → all ≡ [] → AreWorkers v [] all
-no_worker {H} v all e = subst (λ (ws : List (CodeHand (Line (Logged H)))). AreWorkers v [] ws) (sym e) (record {
+pub no_worker : {H : Type 0} (v : Values) (all : List (CodeHand (Line (Recorded H)))) → all ≡ [] → AreWorkers v [] all
+no_worker {H} v all e = subst (λ (ws : List (CodeHand (Line (Recorded H)))). AreWorkers v [] ws) (sym e) (record {
   stand = no_workers log_of (terms_of v) (crews_by v.max_request []) (λ n. new_hand (left_of [] n));
   handlers = refl;
 })
 
-pub one_worker : {H : Type 0} (v : Values) (handlers : List H) (logged : List (Logged H)) (limit : ℕ) (cols : List Column) (house : House) (all more : List (CodeHand (Line (Logged H)))) → 0 < length handlers → AreLogged handlers logged → limit ≡ v.max_request → cols ≡ columns_named v.table_columns → HouseFits (terms_of v) house → IsHouse house → HasKinds cols (blank cols) → more ≡ all ++ worker_started 0 (length all) logged limit (blank cols) house ∷ [] → (given : List (List H)) → AreWorkers v given all → AreWorkers v (given ++ handlers ∷ []) more
-one_worker {H} v handlers logged limit cols house all more some are limit_is cols_are fits is kinds e given h = record { stand = stand; handlers = same }
+pub one_worker : {H : Type 0} (v : Values) (handlers : List H) (recorded : List (Recorded H)) (limit : ℕ) (cols : List Column) (house : House) (all more : List (CodeHand (Line (Recorded H)))) → 0 < length handlers → AreRecorded handlers recorded → limit ≡ v.max_request → cols ≡ columns_named v.table_columns → HouseFits (terms_of v) house → IsHouse house → HasKinds cols (blank cols) → more ≡ all ++ worker_started 0 (length all) recorded limit (blank cols) house ∷ [] → (given : List (List H)) → AreWorkers v given all → AreWorkers v (given ++ handlers ∷ []) more
+one_worker {H} v handlers recorded limit cols house all more some are limit_is cols_are fits is kinds e given h = record { stand = stand; handlers = same }
   where
-    more_is : more ≡ all ++ worker_started 0 (length given) logged v.max_request (blank (columns_named v.table_columns)) house ∷ []
+    more_is : more ≡ all ++ worker_started 0 (length given) recorded v.max_request (blank (columns_named v.table_columns)) house ∷ []
     more_is = e
-        ∙ ap (λ (n : ℕ). all ++ worker_started 0 n logged limit (blank cols) house ∷ []) h.stand.many
-        ∙ ap (λ (m : ℕ). all ++ worker_started 0 (length given) logged m (blank cols) house ∷ []) limit_is
-        ∙ ap (λ (cs : List Column). all ++ worker_started 0 (length given) logged v.max_request (blank cs) house ∷ []) cols_are
+        ∙ ap (λ (n : ℕ). all ++ worker_started 0 n recorded limit (blank cols) house ∷ []) h.stand.many
+        ∙ ap (λ (m : ℕ). all ++ worker_started 0 (length given) recorded m (blank cols) house ∷ []) limit_is
+        ∙ ap (λ (cs : List Column). all ++ worker_started 0 (length given) recorded v.max_request (blank cs) house ∷ []) cols_are
 
-    next : WorkersNew v (map (λ (hs : List H). length hs) given ++ length handlers ∷ []) (length given + 1) (all ++ worker_started 0 (length given) logged v.max_request (blank (columns_named v.table_columns)) house ∷ [])
-    next = worker_more v (map (λ (hs : List H). length hs) given) (length handlers) (length given) logged (blank (columns_named v.table_columns)) house all (length-map given (λ (hs : List H). length hs)) h.stand some (sym (length-map logged inner_of) ∙ ap length are.0) are.1 fits is (subst (λ (cs : List Column). HasKinds cs (blank cs)) cols_are kinds)
+    next : WorkersNew v (map (λ (hs : List H). length hs) given ++ length handlers ∷ []) (length given + 1) (all ++ worker_started 0 (length given) recorded v.max_request (blank (columns_named v.table_columns)) house ∷ [])
+    next = worker_more v (map (λ (hs : List H). length hs) given) (length handlers) (length given) recorded (blank (columns_named v.table_columns)) house all (length-map given (λ (hs : List H). length hs)) h.stand some (sym (length-map recorded inner_of) ∙ ap length are.0) are.1 fits is (subst (λ (cs : List Column). HasKinds cs (blank cs)) cols_are kinds)
 
     stand : WorkersNew v (map (λ (hs : List H). length hs) (given ++ handlers ∷ [])) (length (given ++ handlers ∷ [])) more
     stand =
         subst (λ (ks : List ℕ). WorkersNew v ks (length (given ++ handlers ∷ [])) more) (sym (map-append (λ (hs : List H). length hs) given (handlers ∷ [])))
         (subst (λ (n : ℕ). WorkersNew v (map (λ (hs : List H). length hs) given ++ length handlers ∷ []) n more) (sym (length_append given (handlers ∷ [])))
-        (subst (λ (ws : List (CodeHand (Line (Logged H)))). WorkersNew v (map (λ (hs : List H). length hs) given ++ length handlers ∷ []) (length given + 1) ws) (sym more_is) next))
+        (subst (λ (ws : List (CodeHand (Line (Recorded H)))). WorkersNew v (map (λ (hs : List H). length hs) given ++ length handlers ∷ []) (length given + 1) ws) (sym more_is) next))
 
     same : map handlers_of more ≡ given ++ handlers ∷ []
-    same = ap (λ (ws : List (CodeHand (Line (Logged H)))). map handlers_of ws) more_is
-        ∙ map-append handlers_of all (worker_started 0 (length given) logged v.max_request (blank (columns_named v.table_columns)) house ∷ [])
-        ∙ ap (λ (xs : List (List H)). xs ++ map inner_of logged ∷ []) h.handlers
+    same = ap (λ (ws : List (CodeHand (Line (Recorded H)))). map handlers_of ws) more_is
+        ∙ map-append handlers_of all (worker_started 0 (length given) recorded v.max_request (blank (columns_named v.table_columns)) house ∷ [])
+        ∙ ap (λ (xs : List (List H)). xs ++ map inner_of recorded ∷ []) h.handlers
         ∙ ap (λ (x : List H). given ++ x ∷ []) are.0
 
 -- the lists of handlers that were taken so far, and one more
-pub worker_taken : {X H : Type 0} (items : X → List H) (v : Values) (taken : List X) (x : X) (all more : List (CodeHand (Line (Logged H)))) → AddsWorker v (items x) all more → AreWorkers v (map items taken) all → AreWorkers v (map items (taken ++ x ∷ [])) more
+pub worker_taken : {X H : Type 0} (items : X → List H) (v : Values) (taken : List X) (x : X) (all more : List (CodeHand (Line (Recorded H)))) → AddsWorker v (items x) all more → AreWorkers v (map items taken) all → AreWorkers v (map items (taken ++ x ∷ [])) more
 worker_taken {X} {H} items v taken x all more adds h = subst (λ (given : List (List H)). AreWorkers v given more) (sym (map-append items taken (x ∷ []))) (adds (map items taken) h)
 
-pub workers_same : {X H : Type 0} (items : X → List H) (v : Values) (taken given : List X) (all : List (CodeHand (Line (Logged H)))) → taken ≡ given → AreWorkers v (map items taken) all → AreWorkers v (map items given) all
+pub workers_same : {X H : Type 0} (items : X → List H) (v : Values) (taken given : List X) (all : List (CodeHand (Line (Recorded H)))) → taken ≡ given → AreWorkers v (map items taken) all → AreWorkers v (map items given) all
 workers_same {X} items v taken given all e h = subst (λ (xs : List X). AreWorkers v (map items xs) all) e h
 
-pub workers_many : {X H : Type 0} (items : X → List H) (v : Values) (taken : List X) (all : List (CodeHand (Line (Logged H)))) → AreWorkers v (map items taken) all → length all ≡ length taken
+pub workers_many : {X H : Type 0} (items : X → List H) (v : Values) (taken : List X) (all : List (CodeHand (Line (Recorded H)))) → AreWorkers v (map items taken) all → length all ≡ length taken
 workers_many items v taken all h = h.stand.many ∙ length-map taken items
 
-pub no_tasker : {T : Type 0} (v : Values) (all : List (CodeHand (Logged T))) → all ≡ [] → AreTaskers v [] all
-no_tasker {T} v all e = subst (λ (ws : List (CodeHand (Logged T))). AreTaskers v [] ws) (sym e) (record { stand = no_taskers log_of (terms_of v) (λ n. new_hand 0); handlers = refl })
+pub no_tasker : {T : Type 0} (v : Values) (all : List (CodeHand (Recorded T))) → all ≡ [] → AreTaskers v [] all
+no_tasker {T} v all e = subst (λ (ws : List (CodeHand (Recorded T))). AreTaskers v [] ws) (sym e) (record { stand = no_taskers log_of (terms_of v) (λ n. new_hand 0); handlers = refl })
 
-pub one_tasker : {T : Type 0} (v : Values) (handler : T) (l : Logged T) (cols : List Column) (house : House) (all more : List (CodeHand (Logged T))) → inner_of l ≡ handler → log_of l ≡ [] → cols ≡ columns_named v.table_columns → HouseFits (terms_of v) house → IsHouse house → HasKinds cols (blank cols) → more ≡ all ++ tasker_started (length all) l (blank cols) house ∷ [] → (given : List T) → AreTaskers v given all → AreTaskers v (given ++ handler ∷ []) more
+pub one_tasker : {T : Type 0} (v : Values) (handler : T) (l : Recorded T) (cols : List Column) (house : House) (all more : List (CodeHand (Recorded T))) → inner_of l ≡ handler → log_of l ≡ [] → cols ≡ columns_named v.table_columns → HouseFits (terms_of v) house → IsHouse house → HasKinds cols (blank cols) → more ≡ all ++ tasker_started (length all) l (blank cols) house ∷ [] → (given : List T) → AreTaskers v given all → AreTaskers v (given ++ handler ∷ []) more
 one_tasker {T} v handler l cols house all more inner silent cols_are fits is kinds e given h = record { stand = stand; handlers = same }
   where
     more_is : more ≡ all ++ tasker_started (length given) l (blank (columns_named v.table_columns)) house ∷ []
@@ -110,10 +110,10 @@ one_tasker {T} v handler l cols house all more inner silent cols_are fits is kin
     stand : TaskersStand log_of (terms_of v) (length (given ++ handler ∷ [])) more (λ n. new_hand 0)
     stand =
         subst (λ (n : ℕ). TaskersStand log_of (terms_of v) n more (λ k. new_hand 0)) (sym (length_append given (handler ∷ [])))
-        (subst (λ (ws : List (CodeHand (Logged T))). TaskersStand log_of (terms_of v) (length given + 1) ws (λ k. new_hand 0)) (sym more_is) next)
+        (subst (λ (ws : List (CodeHand (Recorded T))). TaskersStand log_of (terms_of v) (length given + 1) ws (λ k. new_hand 0)) (sym more_is) next)
 
     same : map handler_of more ≡ given ++ handler ∷ []
-    same = ap (λ (ws : List (CodeHand (Logged T))). map handler_of ws) more_is
+    same = ap (λ (ws : List (CodeHand (Recorded T))). map handler_of ws) more_is
         ∙ map-append handler_of all (tasker_started (length given) l (blank (columns_named v.table_columns)) house ∷ [])
         ∙ ap (λ (xs : List T). xs ++ inner_of l ∷ []) h.handlers
         ∙ ap (λ (x : T). given ++ x ∷ []) inner

@@ -8,7 +8,7 @@ use Rattle.sw_port_book.specs.Plain.{Words, free}
 use Rattle.sw_port_board.specs.PlainBoard.{PlainWords}
 use Rattle.sw_settings.specs.declared.values.Values.{Values}
 use Rattle.sw_tmodel.specs.Plain.{PlainTable}
-use Rattle.sw_handler.specs.declared.logged.Logged.{Logged}
+use Rattle.sw_world_crew.specs.declared.recorded.Recorded.{Recorded}
 use Rattle.sw_hand.specs.declared.hand.Hand.{Hand as CodeHand}
 use Rattle.sw_worker.specs.Generations.{Line}
 use Rattle.sw_reactor_table.specs.Reactor.{started}
@@ -29,12 +29,12 @@ use Rattle.sw_world_whole.specs.Whole.{ActorIsNew, IsNewCore}
 use Rattle.sw_world_make.specs.Terms.{terms_of, shape_of}
 use Rattle.sw_world_make.specs.Handlers.{crews_of, AreWorkers, AreTaskers}
 use Rattle.sw_world_make.specs.declared.made.Made.{Made}
-use Rattle.sw_world_make.specs.Made.{parts_of, logged_views, new_board, IsReady}
+use Rattle.sw_world_make.specs.Made.{parts_of, recorded_views, new_board, IsReady}
 
-pub new_core : {H T : Type 0} (v : Values) (given : List (List H)) (tasks : List T) (m : Made (Logged H) (Logged T)) → length given ≡ v.worker_num → length tasks ≡ v.task_worker_num → FrontStands (terms_of v) m.front new_door (new_ports (terms_of v)) → m.places ≡ new_rows v.worker_num v.task_worker_num v.reactor_num v.pipe_capacity → m.book ≡ record { last = v.session_last; slots = replicate v.max_conn free } → m.board ≡ new_board (terms_of v) → TableStands (terms_of v) (shape_of v) m.shelf [] → ReactorsStand (terms_of v) m.reactors (λ n. started) → AreWorkers v given m.crew.workers → AreTaskers v tasks m.crew.taskers → IsNewCore (terms_of v) (crews_of v given) (shape_of v) logged_views (parts_of m)
+pub new_core : {H T : Type 0} (v : Values) (given : List (List H)) (tasks : List T) (m : Made (Recorded H) (Recorded T)) → length given ≡ v.worker_num → length tasks ≡ v.task_worker_num → FrontStands (terms_of v) m.front new_door (new_ports (terms_of v)) → m.places ≡ new_rows v.worker_num v.task_worker_num v.reactor_num v.pipe_capacity → m.book ≡ record { last = v.session_last; slots = replicate v.max_conn free } → m.board ≡ new_board (terms_of v) → TableStands (terms_of v) (shape_of v) m.shelf [] → ReactorsStand (terms_of v) m.reactors (λ n. started) → AreWorkers v given m.crew.workers → AreTaskers v tasks m.crew.taskers → IsNewCore (terms_of v) (crews_of v given) (shape_of v) recorded_views (parts_of m)
 new_core {H} {T} v given tasks m many more front rows book board shelf reactors workers taskers = record { front = front; rows = rows; book = book; board = board; shelf = shelf; actors = actors }
   where
-    actors : (y : ActorId) → there (terms_of v) y ≡ true → ActorIsNew (terms_of v) (crews_of v given) logged_views (parts_of m) y
+    actors : (y : ActorId) → there (terms_of v) y ≡ true → ActorIsNew (terms_of v) (crews_of v given) recorded_views (parts_of m) y
     actors Door e = tt
     actors (Reactor n) e = let o = reactors.each n (test_lt n v.reactor_num e) in (o.0, (o.1.0, o.1.1.is))
     actors (Worker n) e =
@@ -46,7 +46,7 @@ new_core {H} {T} v given tasks m many more front rows book board shelf reactors 
         let k = taskers.stand.each n (omega (arith, lt, more)) in
         (k.0, (k.1.0, record { is = k.1.1.is; numbered = k.1.1.numbered; row = k.1.1.row; tells = k.1.1.tells }))
 
-pub ready : {H T : Type 0} (v : Values) (given : List (List H)) (tasks : List T) (m : Made (Logged H) (Logged T)) → length given ≡ v.worker_num → length tasks ≡ v.task_worker_num → m.max_conn ≡ v.max_conn → 1 ≤ v.reactor_num → v.worker_num + v.task_worker_num + v.reactor_num + 1 ≤ 2 ^ 32 → ReactorsStand (terms_of v) m.reactors (λ n. started) → AreWorkers v given m.crew.workers → AreTaskers v tasks m.crew.taskers → IsReady (terms_of v) m
+pub ready : {H T : Type 0} (v : Values) (given : List (List H)) (tasks : List T) (m : Made (Recorded H) (Recorded T)) → length given ≡ v.worker_num → length tasks ≡ v.task_worker_num → m.max_conn ≡ v.max_conn → 1 ≤ v.reactor_num → v.worker_num + v.task_worker_num + v.reactor_num + 1 ≤ 2 ^ 32 → ReactorsStand (terms_of v) m.reactors (λ n. started) → AreWorkers v given m.crew.workers → AreTaskers v tasks m.crew.taskers → IsReady (terms_of v) m
 ready {H} {T} v given tasks m many more slots some few reactors workers taskers = record {
   slots = slots;
   some = some;

@@ -1,5 +1,5 @@
 pub mod Taking
-pub mod Logging
+pub mod Recording
 pub mod Adding
 pub mod Refusing
 pub mod Sharing

@@ -31,6 +31,7 @@ use Rattle.sw_world_reactors.specs.declared.owner.Owner.{Owner}
 use Rattle.sw_world_reactors.specs.Owners.{AreNew}
 use Rattle.sw_world_reactors_fits.specs.Stand.{ReactorsStand}
 use Rattle.sw_world_reactors_fits.proofs.Changed.{new_all}
+use Rattle.sw_world_laws.specs.Runs.{IsServer}
 use Rattle.sw_world_steps.specs.Server.{IsServed}
 use Rattle.sw_world_make.specs.Terms.{terms_of, shape_of}
 use Rattle.sw_world_make.specs.Made.{new_board}
@@ -92,6 +93,14 @@ is_served v w k m f ew ek em ef ws ks ms fit =
       fit = subst IsFit ef fit;
       calm = refl;
     }
+
+pub is_server : (v : Values) (m r w : ℕ) → m ≡ v.dispatch_mode → r ≡ v.reactor_num → w ≡ v.worker_num → IsWithin 1 5 m → IsWithin 1 64 r → IsWithin 1 64 w → IsServer (terms_of v)
+is_server v m r w em er ew ms rs ws =
+    let low : 1 ≤ m = ms.0 in
+    let high : m ≤ 5 = ms.1 in
+    let some : 1 ≤ r = rs.0 in
+    let least : 1 ≤ w = ws.0 in
+    record { low = omega (arith, em, low); high = omega (arith, em, high); reactors = omega (arith, er, some); workers = omega (arith, ew, least) }
 
 pub few_actors : (v : Values) (w k r : ℕ) → w ≡ v.worker_num → k ≡ v.task_worker_num → r ≡ v.reactor_num → IsWithin 1 64 w → k ≤ 64 → IsWithin 1 64 r → v.worker_num + v.task_worker_num + v.reactor_num + 1 ≤ 2 ^ 32
 few_actors v w k r ew ek er ws ks rs =

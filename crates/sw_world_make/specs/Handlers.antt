@@ -3,8 +3,8 @@ use Rattle.std.specs.Prelude.{◌≡◌, ℕ, zero, suc, ◌-◌, List, [], ◌�
 use Rattle.sw_step.specs.declared.actor.ActorId.{ActorId}
 use Rattle.sw_step.specs.declared.actor.ActorId.TheVariants.{Door, Reactor, Worker, Tasker}
 use Rattle.sw_settings.specs.declared.values.Values.{Values}
-use Rattle.sw_handler.specs.declared.logged.Logged.{Logged}
-use Rattle.sw_handler.specs.Log.{inner_of, log_of}
+use Rattle.sw_world_crew.specs.declared.recorded.Recorded.{Recorded}
+use Rattle.sw_world_crew.specs.Recorded.{inner_of, log_of}
 use Rattle.sw_hand.specs.declared.hand.Hand.{Hand as CodeHand}
 use Rattle.sw_worker.specs.Generations.{Line}
 use Rattle.sw_world_hands.specs.Hands.{Crews, new_hand}
@@ -32,34 +32,34 @@ abbrev pub crews_of : {H : Type 0} → Values → List (List H) → Crews
 crews_of {H} v given = crews_by v.max_request (map (λ (hs : List H). length hs) given)
 
 -- handlers with logs: these, and each was told nothing yet
-abbrev pub AreLogged : {H : Type 0} → List H → List (Logged H) → Type 0
-AreLogged given all = (map inner_of all ≡ given) × (map log_of all ≡ replicate (length all) [])
+abbrev pub AreRecorded : {H : Type 0} → List H → List (Recorded H) → Type 0
+AreRecorded given all = (map inner_of all ≡ given) × (map log_of all ≡ replicate (length all) [])
 
 -- so many workers before their first turns, by how many handlers each has
-abbrev pub WorkersNew : {H : Type 0} → Values → List ℕ → ℕ → List (CodeHand (Line (Logged H))) → Type 0
+abbrev pub WorkersNew : {H : Type 0} → Values → List ℕ → ℕ → List (CodeHand (Line (Recorded H))) → Type 0
 WorkersNew v ks count all = WorkersStand log_of (terms_of v) (crews_by v.max_request ks) count all (λ n. new_hand (left_of ks n))
 
 -- a worker's handlers without their logs
-abbrev pub handlers_of : {H : Type 0} → CodeHand (Line (Logged H)) → List H
+abbrev pub handlers_of : {H : Type 0} → CodeHand (Line (Recorded H)) → List H
 handlers_of h = map inner_of h.handler.items
 
 -- workers before their first turns with these handlers, which were told nothing yet
-pub record AreWorkers {H : Type 0} (v : Values) (given : List (List H)) (all : List (CodeHand (Line (Logged H)))) : Type 0 where
+pub record AreWorkers {H : Type 0} (v : Values) (given : List (List H)) (all : List (CodeHand (Line (Recorded H)))) : Type 0 where
   pub stand : WorkersNew v (map (λ (hs : List H). length hs) given) (length given) all
   pub handlers : map handlers_of all ≡ given
 
 -- one worker more, behind any that were given so
-abbrev pub AddsWorker : {H : Type 0} → Values → List H → List (CodeHand (Line (Logged H))) → List (CodeHand (Line (Logged H))) → Type 0
+abbrev pub AddsWorker : {H : Type 0} → Values → List H → List (CodeHand (Line (Recorded H))) → List (CodeHand (Line (Recorded H))) → Type 0
 AddsWorker {H} v handlers all more = (given : List (List H)) → AreWorkers v given all → AreWorkers v (given ++ handlers ∷ []) more
 
 -- a task worker's handler without its log
-abbrev pub handler_of : {T : Type 0} → CodeHand (Logged T) → T
+abbrev pub handler_of : {T : Type 0} → CodeHand (Recorded T) → T
 handler_of h = inner_of h.handler
 
 -- task workers before their first turns with these handlers
-pub record AreTaskers {T : Type 0} (v : Values) (given : List T) (all : List (CodeHand (Logged T))) : Type 0 where
+pub record AreTaskers {T : Type 0} (v : Values) (given : List T) (all : List (CodeHand (Recorded T))) : Type 0 where
   pub stand : TaskersStand log_of (terms_of v) (length given) all (λ n. new_hand 0)
   pub handlers : map handler_of all ≡ given
 
-abbrev pub AddsTasker : {T : Type 0} → Values → T → List (CodeHand (Logged T)) → List (CodeHand (Logged T)) → Type 0
+abbrev pub AddsTasker : {T : Type 0} → Values → T → List (CodeHand (Recorded T)) → List (CodeHand (Recorded T)) → Type 0
 AddsTasker {T} v handler all more = (given : List T) → AreTaskers v given all → AreTaskers v (given ++ handler ∷ []) more

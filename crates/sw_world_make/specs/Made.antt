@@ -2,8 +2,8 @@
 use Rattle.std.specs.Prelude.{◌≡◌, ℕ, ◌+◌, ◌≤◌, ◌^◌, List, length, replicate, slice_get, Some, false}
 use Rattle.sw_port_board.specs.PlainBoard.{PlainWords, plain_words, no_counts}
 use Rattle.sw_record.specs.Terms.{Terms}
-use Rattle.sw_handler.specs.declared.logged.Logged.{Logged}
-use Rattle.sw_handler.specs.Log.{log_of}
+use Rattle.sw_world_crew.specs.declared.recorded.Recorded.{Recorded}
+use Rattle.sw_world_crew.specs.Recorded.{log_of}
 use Rattle.sw_world_reactors.specs.declared.owner.Owner.{Owner}
 use Rattle.sw_world_reactors.specs.Owners.{IsReadyOwner}
 use Rattle.sw_world_whole.specs.Parts.{Parts, Views}
@@ -14,8 +14,8 @@ abbrev pub parts_of : {H T : Type 0} → Made H T → Parts Owner H T
 parts_of m = record { front = m.front; rows = m.places; book = m.book; board = m.board; shelf = m.shelf; owners = m.reactors; workers = m.crew.workers; taskers = m.crew.taskers }
 
 -- how they are seen: handlers tell their logs
-abbrev pub logged_views : {H T : Type 0} → Views Owner (Logged H) (Logged T)
-logged_views = record { reactor = λ o. o.reactor; ends = λ o. o.ends; worker = log_of; tasker = log_of }
+abbrev pub recorded_views : {H T : Type 0} → Views Owner (Recorded H) (Recorded T)
+recorded_views = record { reactor = λ o. o.reactor; ends = λ o. o.ends; worker = log_of; tasker = log_of }
 
 -- the parts are as many as the settings say, few enough for 32 bits, and each reactor is ready for a turn
 pub record IsReady {H T : Type 0} (t : Terms) (m : Made H T) : Type 0 where

@@ -1,12 +1,13 @@
 //! How a core is made.
 ghost use Rattle.std.specs.Prelude.{◌≡◌, ◌<◌, ◌^◌, [], length, map, None, IfOk, IfErr};
 ghost use Rattle.sw_join.specs.Legal.{LegalFor};
+ghost use Rattle.sw_world_laws.specs.Runs.{IsServer};
 ghost use Rattle.sw_world_steps.specs.Server.{IsServed};
 ghost use Rattle.sw_world_whole.specs.Whole.{IsNewCore};
 ghost use Rattle.sw_world_make.specs.Terms.{terms_of, shape_of};
 ghost use Rattle.sw_world_make.specs.Faults.{count_fault, IsRefusal};
 ghost use Rattle.sw_world_make.specs.Handlers.{crews_of, handlers_of, handler_of};
-ghost use Rattle.sw_world_make.specs.Made.{parts_of, logged_views, IsReady};
+ghost use Rattle.sw_world_make.specs.Made.{parts_of, recorded_views, IsReady};
 
 use crate::counting::count_fault;
 use crate::fault::WorldFault;
@@ -16,9 +17,8 @@ use crate::parts::{board, book, front, places, reactors, shelf};
 use crate::seen::served;
 use std::alloc::Global;
 use sw_base::OutOfMemory;
-use sw_handler::Logged;
 use sw_settings::Settings;
-use sw_world_crew::Crew;
+use sw_world_crew::{Crew, Recorded};
 
 /// Puts all parts of a core together.
 fn assembled<H: Drop, T: Drop>(
@@ -26,9 +26,9 @@ fn assembled<H: Drop, T: Drop>(
     settings: &Settings,
     given: Vec<Vec<H>>,
     tasks: Vec<T>,
-) -> Result<Made<Logged<H>, Logged<T>>, OutOfMemory>
+) -> Result<Made<Recorded<H>, Recorded<T>>, OutOfMemory>
     requires { count_fault settings.now (map (λ hs. hs.items) given.items) (length tasks.items) ≡ None }
-    ensures starts { IfOk result (λ m. IsNewCore (terms_of settings.now) (crews_of settings.now (map (λ hs. hs.items) given.items)) (shape_of settings.now) logged_views (parts_of m)) }
+    ensures starts { IfOk result (λ m. IsNewCore (terms_of settings.now) (crews_of settings.now (map (λ hs. hs.items) given.items)) (shape_of settings.now) recorded_views (parts_of m)) }
     ensures ready { IfOk result (λ m. IsReady (terms_of settings.now) m) }
     ensures workers { IfOk result (λ m. map handlers_of m.crew.workers ≡ map (λ hs. hs.items) given.items) }
     ensures taskers { IfOk result (λ m. map handler_of m.crew.taskers ≡ tasks.items) }
@@ -66,13 +66,14 @@ pub fn make<H: Drop, T: Drop>(
     settings: &Settings,
     workers: Vec<Vec<H>>,
     taskers: Vec<T>,
-) -> Result<Made<Logged<H>, Logged<T>>, WorldFault>
+) -> Result<Made<Recorded<H>, Recorded<T>>, WorldFault>
+    ensures server { IsServer (terms_of settings.now) }
     ensures served { IsServed (terms_of settings.now) }
     ensures last { settings.now.session_last < 2 ^ 32 }
     ensures legal { LegalFor (shape_of settings.now) [] }
     ensures counted { IfOk result (λ m. count_fault settings.now (map (λ hs. hs.items) workers.items) (length taskers.items) ≡ None) }
     ensures refused { IfErr result (IsRefusal (count_fault settings.now (map (λ hs. hs.items) workers.items) (length taskers.items))) }
-    ensures starts { IfOk result (λ m. IsNewCore (terms_of settings.now) (crews_of settings.now (map (λ hs. hs.items) workers.items)) (shape_of settings.now) logged_views (parts_of m)) }
+    ensures starts { IfOk result (λ m. IsNewCore (terms_of settings.now) (crews_of settings.now (map (λ hs. hs.items) workers.items)) (shape_of settings.now) recorded_views (parts_of m)) }
     ensures ready { IfOk result (λ m. IsReady (terms_of settings.now) m) }
     ensures workers { IfOk result (λ m. map handlers_of m.crew.workers ≡ map (λ hs. hs.items) workers.items) }
     ensures taskers { IfOk result (λ m. map handler_of m.crew.taskers ≡ taskers.items) }

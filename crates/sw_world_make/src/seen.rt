@@ -4,6 +4,7 @@ ghost use Rattle.sw_join.specs.Legal.{LegalFor};
 ghost use Rattle.sw_hand.specs.House.{IsHouse};
 ghost use Rattle.sw_conn_fits.specs.Shown.{settings as settings_of};
 ghost use Rattle.sw_hand_fits.specs.Matches.{HouseFits, is_some_table};
+ghost use Rattle.sw_world_laws.specs.Runs.{IsServer};
 ghost use Rattle.sw_world_steps.specs.Server.{IsServed};
 ghost use Rattle.sw_world_make.specs.Terms.{terms_of, shape_of};
 
@@ -14,12 +15,13 @@ use sw_settings::Settings;
 
 /// Reads the settings, under each of which a core runs; it does nothing else.
 pub(crate) fn served(settings: &Settings)
+    ensures server { IsServer (terms_of settings.now) }
     ensures served { IsServed (terms_of settings.now) }
     ensures last { settings.now.session_last < 2 ^ 32 }
     ensures legal { LegalFor (shape_of settings.now) [] }
-    ensures some { 1 ≤ settings.now.reactor_num }
     ensures few { settings.now.worker_num + settings.now.task_worker_num + settings.now.reactor_num + 1 ≤ 2 ^ 32 }
 {
+    settings.dispatch_mode();
     settings.worker_num();
     settings.task_worker_num();
     settings.reactor_num();

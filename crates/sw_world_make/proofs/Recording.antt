@@ -1,9 +1,9 @@
 -- Handlers with empty logs, one by one.
 use Rattle.std.proofs.Common.{◌≡◌, ℕ, zero, suc, List, [], ◌∷◌, ◌++◌, ◌<◌, length, map, replicate, refl, ap, ◌∙◌, sym, subst, arith}
 use Rattle.std.proofs.lemmas.List.{map-append, length-map}
-use Rattle.sw_handler.specs.declared.logged.Logged.{Logged}
-use Rattle.sw_handler.specs.Log.{inner_of, log_of}
-use Rattle.sw_world_make.specs.Handlers.{AreLogged}
+use Rattle.sw_world_crew.specs.declared.recorded.Recorded.{Recorded}
+use Rattle.sw_world_crew.specs.Recorded.{inner_of, log_of}
+use Rattle.sw_world_make.specs.Handlers.{AreRecorded}
 
 same_more : {A : Type 0} (n : ℕ) (x : A) → replicate n x ++ x ∷ [] ≡ replicate (suc n) x
 same_more zero x = refl
@@ -22,16 +22,16 @@ silent_more {A} {B} told all x none h =
     ∙ same_more (length all) []
     ∙ ap (λ (n : ℕ). replicate n []) (one_longer all x)
 
-pub one_logged : {H : Type 0} (given : List H) (x : H) (all more : List (Logged H)) (l : Logged H) → more ≡ all ++ l ∷ [] → inner_of l ≡ x → log_of l ≡ [] → AreLogged given all → AreLogged (given ++ x ∷ []) more
-one_logged {H} given x all more l e inner log h =
-    subst (λ (ls : List (Logged H)). AreLogged (given ++ x ∷ []) ls) (sym e) (
+pub one_recorded : {H : Type 0} (given : List H) (x : H) (all more : List (Recorded H)) (l : Recorded H) → more ≡ all ++ l ∷ [] → inner_of l ≡ x → log_of l ≡ [] → AreRecorded given all → AreRecorded (given ++ x ∷ []) more
+one_recorded {H} given x all more l e inner log h =
+    subst (λ (ls : List (Recorded H)). AreRecorded (given ++ x ∷ []) ls) (sym e) (
       map-append inner_of all (l ∷ []) ∙ ap (λ (ys : List H). ys ++ inner_of l ∷ []) h.0 ∙ ap (λ (y : H). given ++ y ∷ []) inner,
       silent_more log_of all l log h.1,
     )
 
 -- as many as were given
-pub some_logged : {H : Type 0} (given : List H) (all : List (Logged H)) → 0 < length given → AreLogged given all → 0 < length all
-some_logged given all some h =
+pub some_recorded : {H : Type 0} (given : List H) (all : List (Recorded H)) → 0 < length given → AreRecorded given all → 0 < length all
+some_recorded given all some h =
     let many : length (map inner_of all) ≡ length all = length-map all inner_of in
     let same : length (map inner_of all) ≡ length given = ap length h.0 in
     omega (arith, many, same, some)
