@@ -30,8 +30,8 @@ fn assembled<H: Drop, T: Drop>(
     requires { count_fault settings.now (map (λ hs. hs.items) given.items) (length tasks.items) ≡ None }
     ensures starts { IfOk result (λ m. IsNewCore (terms_of settings.now) (crews_of settings.now (map (λ hs. hs.items) given.items)) (shape_of settings.now) recorded_views (parts_of m)) }
     ensures ready { IfOk result (λ m. IsReady (terms_of settings.now) m) }
-    ensures workers { IfOk result (λ m. map handlers_of m.crew.workers ≡ map (λ hs. hs.items) given.items) }
-    ensures taskers { IfOk result (λ m. map handler_of m.crew.taskers ≡ tasks.items) }
+    ensures handlers { IfOk result (λ m. map handlers_of m.crew.workers ≡ map (λ hs. hs.items) given.items) }
+    ensures task_handlers { IfOk result (λ m. map handler_of m.crew.taskers ≡ tasks.items) }
 {
     served(settings);
     let front = front(alloc, settings)?;
@@ -75,11 +75,11 @@ pub fn make<H: Drop, T: Drop>(
     ensures refused { IfErr result (IsRefusal (count_fault settings.now (map (λ hs. hs.items) workers.items) (length taskers.items))) }
     ensures starts { IfOk result (λ m. IsNewCore (terms_of settings.now) (crews_of settings.now (map (λ hs. hs.items) workers.items)) (shape_of settings.now) recorded_views (parts_of m)) }
     ensures ready { IfOk result (λ m. IsReady (terms_of settings.now) m) }
-    ensures workers { IfOk result (λ m. map handlers_of m.crew.workers ≡ map (λ hs. hs.items) workers.items) }
-    ensures taskers { IfOk result (λ m. map handler_of m.crew.taskers ≡ taskers.items) }
+    ensures handlers { IfOk result (λ m. map handlers_of m.crew.workers ≡ map (λ hs. hs.items) workers.items) }
+    ensures task_handlers { IfOk result (λ m. map handler_of m.crew.taskers ≡ taskers.items) }
 {
     served(settings);
-    if let Some(fault) = count_fault(settings, workers.as_slice(), taskers.as_slice()) {
+    if let Some(fault) = count_fault(settings, &workers, &taskers) {
         return Err(fault);
     }
     let made = assembled(alloc, settings, workers, taskers)?;

@@ -22,8 +22,8 @@ returns-clause-ready g c =
     let right = counted c.args.settings.now (map (λ hs. hs.items) c.args.given.items) (length c.args.tasks.items) c.requires in
     ready c.args.settings.now (map (λ hs. hs.items) c.args.given.items) c.args.tasks.items _ right.0 right.1.0 c.max_conn-max_conn.ensures.value c.served.ensures.server.reactors c.served.ensures.few c.in_ok-reactors.ensures c.in_ok-workers.ensures c.in_ok-taskers.ensures
 
-pub returns-clause-workers : goal.returns-clause-workers
-returns-clause-workers g c = c.in_ok-workers.ensures.handlers
+pub returns-clause-handlers : goal.returns-clause-handlers
+returns-clause-handlers g c = c.in_ok-workers.ensures.handlers
 
-pub returns-clause-taskers : goal.returns-clause-taskers
-returns-clause-taskers g c = c.in_ok-taskers.ensures.handlers
+pub returns-clause-task_handlers : goal.returns-clause-task_handlers
+returns-clause-task_handlers g c = c.in_ok-taskers.ensures.handlers
