@@ -79,18 +79,18 @@ pub house_fits : (v : Values) (h : House) (cols : List Column) → h.mode ≡ v.
 house_fits v h cols mode slots reactors workers taskers table are = record { mode = mode; max_conn = slots; reactors = reactors; workers = workers; taskers = taskers; table = table ∙ ap is_some_table are }
 
 pub is_served : (v : Values) (w k m : ℕ) (f : Framing) → w ≡ v.worker_num → k ≡ v.task_worker_num → m ≡ v.max_conn → f ≡ framing_of v → IsWithin 1 64 w → k ≤ 64 → IsWithin 1 65536 m → IsFit f → IsServed (terms_of v)
-is_served v w k m f ew ek em ef ws ks ms fit =
+is_served v w k m f ew ek em ef ws ks ms cuts =
     let least : 1 ≤ w = ws.0 in
     let most : w ≤ 64 = ws.1 in
-    let slots : 1 ≤ m = ms.0 in
+    let some : 1 ≤ m = ms.0 in
     record {
       sizes = record {
         workers = omega (arith, ew, least);
         few_workers = omega (arith, ew, most);
         few_taskers = omega (arith, ek, ks);
       };
-      slots = omega (arith, em, slots);
-      fit = subst IsFit ef fit;
+      slots = omega (arith, em, some);
+      fit = subst IsFit ef cuts;
       calm = refl;
     }
 

@@ -43,7 +43,7 @@ fn assembled<H: Drop, T: Drop>(
     let workers = workers(alloc, settings, given)?;
     let taskers = taskers(alloc, settings, tasks)?;
     let crew = Crew { workers, taskers };
-    let max_conn = settings.max_conn();
+    let slots = settings.max_conn();
     Ok(Made {
         front,
         places,
@@ -52,7 +52,7 @@ fn assembled<H: Drop, T: Drop>(
         shelf,
         reactors,
         crew,
-        max_conn,
+        max_conn: slots,
     })
 }
 

@@ -20,7 +20,7 @@ returns-clause-starts g c =
 pub returns-clause-ready : goal.returns-clause-ready
 returns-clause-ready g c =
     let right = counted c.args.settings.now (map (λ hs. hs.items) c.args.given.items) (length c.args.tasks.items) c.requires in
-    ready c.args.settings.now (map (λ hs. hs.items) c.args.given.items) c.args.tasks.items _ right.0 right.1.0 c.max_conn-max_conn.ensures.value c.served.ensures.server.reactors c.served.ensures.few c.in_ok-reactors.ensures c.in_ok-workers.ensures c.in_ok-taskers.ensures
+    ready c.args.settings.now (map (λ hs. hs.items) c.args.given.items) c.args.tasks.items _ right.0 right.1.0 c.max_conn-slots.ensures.value c.served.ensures.server.reactors c.served.ensures.few c.in_ok-reactors.ensures c.in_ok-workers.ensures c.in_ok-taskers.ensures
 
 pub returns-clause-handlers : goal.returns-clause-handlers
 returns-clause-handlers g c = c.in_ok-workers.ensures.handlers
