@@ -39,11 +39,13 @@ new_core {H} {T} v given tasks m many more front rows book board shelf reactors 
     actors (Reactor n) e = let o = reactors.each n (test_lt n v.reactor_num e) in (o.0, (o.1.0, o.1.1.is))
     actors (Worker n) e =
         let lt : n < v.worker_num = test_lt n v.worker_num e in
-        let w = workers.stand.each n (omega (arith, lt, many)) in
+        let here : n < length given = omega (arith, lt, many) in
+        let w = workers.stand.each n here in
         (w.0, (w.1.0, record { is = w.1.1.is; numbered = w.1.1.numbered; row = w.1.1.row; tells = w.1.1.tells }))
     actors (Tasker n) e =
         let lt : n < v.task_worker_num = test_lt n v.task_worker_num e in
-        let k = taskers.stand.each n (omega (arith, lt, more)) in
+        let here : n < length tasks = omega (arith, lt, more) in
+        let k = taskers.stand.each n here in
         (k.0, (k.1.0, record { is = k.1.1.is; numbered = k.1.1.numbered; row = k.1.1.row; tells = k.1.1.tells }))
 
 pub ready : {H T : Type 0} (v : Values) (given : List (List H)) (tasks : List T) (m : Made (Recorded H) (Recorded T)) → length given ≡ v.worker_num → length tasks ≡ v.task_worker_num → m.max_conn ≡ v.max_conn → 1 ≤ v.reactor_num → v.worker_num + v.task_worker_num + v.reactor_num + 1 ≤ 2 ^ 32 → ReactorsStand (terms_of v) m.reactors (λ n. started) → AreWorkers v given m.crew.workers → AreTaskers v tasks m.crew.taskers → IsReady (terms_of v) m
@@ -57,7 +59,8 @@ ready {H} {T} v given tasks m many more slots some few reactors workers taskers 
   owners = λ n o e.
       (let within : n < length m.reactors = slice_get_within m.reactors n o e in
       let count : length m.reactors ≡ v.reactor_num = reactors.count in
-      let own = reactors.each n (omega (arith, within, count)) in
+      let here : n < v.reactor_num = omega (arith, within, count) in
+      let own = reactors.each n here in
       subst IsReadyOwner (some_same own.0 o (sym own.1.0 ∙ e)) own.1.1.ready);
 }
 

@@ -53,7 +53,7 @@ table_with cols size percent last = record { columns = cols; size = raised size;
 
 table_new : (v : Values) → TableStands (terms_of v) (shape_of v) (table_with (columns_named v.table_columns) v.table_size v.table_percent v.table_last_call) []
 unfolding left_by
-table_new v = record { same = refl; columns = refl; rows = refl; calls = refl; last = refl; within = omega arith }
+table_new v = let within : 0 ≤ v.table_last_call = omega arith in record { same = refl; columns = refl; rows = refl; calls = refl; last = refl; within = within }
 
 pub new_table : (v : Values) (cols : List Column) (size percent last : ℕ) (p : PlainTable) → cols ≡ columns_named v.table_columns → size ≡ v.table_size → percent ≡ v.table_percent → last ≡ v.table_last_call → p ≡ table_with cols size percent last → TableStands (terms_of v) (shape_of v) p []
 new_table v cols size percent last p ec es ep el e =
@@ -83,16 +83,11 @@ is_served v w k m f ew ek em ef ws ks ms cuts =
     let least : 1 ≤ w = ws.0 in
     let most : w ≤ 64 = ws.1 in
     let some : 1 ≤ m = ms.0 in
-    record {
-      sizes = record {
-        workers = omega (arith, ew, least);
-        few_workers = omega (arith, ew, most);
-        few_taskers = omega (arith, ek, ks);
-      };
-      slots = omega (arith, em, some);
-      fit = subst IsFit ef cuts;
-      calm = refl;
-    }
+    let workers : 0 < v.worker_num = omega (arith, ew, least) in
+    let few_workers : v.worker_num < 2 ^ 32 = omega (arith, ew, most) in
+    let few_taskers : v.task_worker_num < 2 ^ 32 = omega (arith, ek, ks) in
+    let slots : 1 ≤ v.max_conn = omega (arith, em, some) in
+    record { sizes = record { workers = workers; few_workers = few_workers; few_taskers = few_taskers }; slots = slots; fit = subst IsFit ef cuts; calm = refl }
 
 pub is_server : (v : Values) (m r w : ℕ) → m ≡ v.dispatch_mode → r ≡ v.reactor_num → w ≡ v.worker_num → IsWithin 1 5 m → IsWithin 1 64 r → IsWithin 1 64 w → IsServer (terms_of v)
 is_server v m r w em er ew ms rs ws =
@@ -100,7 +95,11 @@ is_server v m r w em er ew ms rs ws =
     let high : m ≤ 5 = ms.1 in
     let some : 1 ≤ r = rs.0 in
     let least : 1 ≤ w = ws.0 in
-    record { low = omega (arith, em, low); high = omega (arith, em, high); reactors = omega (arith, er, some); workers = omega (arith, ew, least) }
+    let one : 1 ≤ v.dispatch_mode = omega (arith, em, low) in
+    let five : v.dispatch_mode ≤ 5 = omega (arith, em, high) in
+    let reactors : 1 ≤ v.reactor_num = omega (arith, er, some) in
+    let workers : 1 ≤ v.worker_num = omega (arith, ew, least) in
+    record { low = one; high = five; reactors = reactors; workers = workers }
 
 pub few_actors : (v : Values) (w k r : ℕ) → w ≡ v.worker_num → k ≡ v.task_worker_num → r ≡ v.reactor_num → IsWithin 1 64 w → k ≤ 64 → IsWithin 1 64 r → v.worker_num + v.task_worker_num + v.reactor_num + 1 ≤ 2 ^ 32
 few_actors v w k r ew ek er ws ks rs =
