@@ -1,4 +1,5 @@
-//! How a core is made: its actors and what they share before any step, as the settings ask for them, with the handlers that are given.
+//! How a core is made: its actors and what they share before any step, as the settings ask for them, with the handlers
+//! that are given.
 #![tactic(auto)]
 
 mod counting;

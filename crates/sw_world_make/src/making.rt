@@ -28,7 +28,9 @@ fn assembled<H: Drop, T: Drop>(
     tasks: Vec<T>,
 ) -> Result<Made<Recorded<H>, Recorded<T>>, OutOfMemory>
     requires { count_fault settings.now (map (λ hs. hs.items) given.items) (length tasks.items) ≡ None }
-    ensures starts { IfOk result (λ m. IsNewCore (terms_of settings.now) (crews_of settings.now (map (λ hs. hs.items) given.items)) (shape_of settings.now) recorded_views (parts_of m)) }
+    ensures starts { IfOk result (λ m.
+        IsNewCore (terms_of settings.now) (crews_of settings.now (map (λ hs. hs.items) given.items))
+        (shape_of settings.now) recorded_views (parts_of m)) }
     ensures ready { IfOk result (λ m. IsReady (terms_of settings.now) m) }
     ensures handlers { IfOk result (λ m. map handlers_of m.crew.workers ≡ map (λ hs. hs.items) given.items) }
     ensures task_handlers { IfOk result (λ m. map handler_of m.crew.taskers ≡ tasks.items) }
@@ -56,11 +58,12 @@ fn assembled<H: Drop, T: Drop>(
     })
 }
 
-/// A core before its first step. Each worker has its list of handlers, one behind the other, and each task worker one handler;
-/// each handler is kept with a log, which is empty.
+/// A core before its first step. Each worker has its list of handlers, one behind the other, and each task worker one
+/// handler; each handler is kept with a log, which is empty.
 ///
-/// `Count` comes exactly where a number is wrong, for the first part of which it is: a list for each worker, a handler for each task
-/// worker, and then one handler at least in each list, where the numbers are 1 and 0. What was given is dropped then.
+/// `Count` comes exactly where a number is wrong, for the first part of which it is: a list for each worker, a handler for
+/// each task worker, and then one handler at least in each list, where the numbers are 1 and 0. What was given is dropped
+/// then.
 pub fn make<H: Drop, T: Drop>(
     alloc: Global,
     settings: &Settings,
@@ -71,9 +74,13 @@ pub fn make<H: Drop, T: Drop>(
     ensures served { IsServed (terms_of settings.now) }
     ensures last { settings.now.session_last < 2 ^ 32 }
     ensures legal { LegalFor (shape_of settings.now) [] }
-    ensures counted { IfOk result (λ m. count_fault settings.now (map (λ hs. hs.items) workers.items) (length taskers.items) ≡ None) }
-    ensures refused { IfErr result (IsRefusal (count_fault settings.now (map (λ hs. hs.items) workers.items) (length taskers.items))) }
-    ensures starts { IfOk result (λ m. IsNewCore (terms_of settings.now) (crews_of settings.now (map (λ hs. hs.items) workers.items)) (shape_of settings.now) recorded_views (parts_of m)) }
+    ensures counted { IfOk result (λ m.
+        count_fault settings.now (map (λ hs. hs.items) workers.items) (length taskers.items) ≡ None) }
+    ensures refused { IfErr result (IsRefusal
+        (count_fault settings.now (map (λ hs. hs.items) workers.items) (length taskers.items))) }
+    ensures starts { IfOk result (λ m.
+        IsNewCore (terms_of settings.now) (crews_of settings.now (map (λ hs. hs.items) workers.items))
+        (shape_of settings.now) recorded_views (parts_of m)) }
     ensures ready { IfOk result (λ m. IsReady (terms_of settings.now) m) }
     ensures handlers { IfOk result (λ m. map handlers_of m.crew.workers ≡ map (λ hs. hs.items) workers.items) }
     ensures task_handlers { IfOk result (λ m. map handler_of m.crew.taskers ≡ taskers.items) }

@@ -25,7 +25,8 @@ use sw_world_reactors::Reactors;
 
 /// A door before its first turn, and no link.
 pub(crate) fn front(alloc: Global, settings: &Settings) -> Result<Front, OutOfMemory>
-    ensures { IfOk result (λ f. FrontStands (terms_of settings.now) f new_door (new_ports (terms_of settings.now))) }
+    ensures { IfOk result (λ f.
+        FrontStands (terms_of settings.now) f new_door (new_ports (terms_of settings.now))) }
 {
     let front = Front::make(alloc, settings.max_conn(), settings.reactor_num())?;
     Ok(front)
@@ -33,7 +34,9 @@ pub(crate) fn front(alloc: Global, settings: &Settings) -> Result<Front, OutOfMe
 
 /// The actors' places, with empty pipes.
 pub(crate) fn places(alloc: Global, settings: &Settings) -> Result<Places, OutOfMemory>
-    ensures { IfOk result (λ p. p ≡ new_rows settings.now.worker_num settings.now.task_worker_num settings.now.reactor_num settings.now.pipe_capacity) }
+    ensures { IfOk result (λ p.
+        p ≡ new_rows settings.now.worker_num settings.now.task_worker_num settings.now.reactor_num
+        settings.now.pipe_capacity) }
 {
     let places = Places::make(
         alloc,
@@ -47,7 +50,8 @@ pub(crate) fn places(alloc: Global, settings: &Settings) -> Result<Places, OutOf
 
 /// The session words, all free.
 pub(crate) fn book(alloc: Global, settings: &Settings) -> Result<PlainBook, OutOfMemory>
-    ensures { IfOk result (λ b. b ≡ record { last = settings.now.session_last; slots = replicate settings.now.max_conn free }) }
+    ensures { IfOk result (λ b.
+        b ≡ record { last = settings.now.session_last; slots = replicate settings.now.max_conn free }) }
 {
     let book = PlainBook::make(alloc, settings.max_conn(), settings.session_last())?;
     Ok(book)
