@@ -61,9 +61,9 @@ fn assembled<H: Drop, T: Drop>(
 /// A core before its first step. Each worker has its list of handlers, one behind the other, and each task worker one
 /// handler; each handler is kept with a log, which is empty.
 ///
-/// `Count` comes exactly where a number is wrong, for the first part of which it is: a list for each worker, a handler for
-/// each task worker, and then one handler at least in each list, where the numbers are 1 and 0. What was given is dropped
-/// then.
+/// `Count` comes exactly where a number is wrong, for the first part of which it is: a list for each worker, a handler
+/// for each task worker, and then one handler at least in each list, where the numbers are 1 and 0. What was given is
+/// dropped then.
 pub fn make<H: Drop, T: Drop>(
     alloc: Global,
     settings: &Settings,
