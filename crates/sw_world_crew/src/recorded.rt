@@ -1,6 +1,4 @@
 //! A handler of the core, with its log.
-ghost use Rattle.sw_world_crew.specs.Recorded.{IsNumbered};
-
 use std::alloc::Global;
 use sw_base::OutOfMemory;
 use sw_data::{Act, Given, Log};
@@ -59,27 +57,6 @@ impl<H: Handler> Handler for Recorded<H> {
         ensures err { OnErr result (log_of self.new ≡ log_of self.old) }
     {
         let act = self.logged.next(alloc, given)?;
-        is_numbered(&act);
         Ok(act)
-    }
-}
-
-/// Whether an act is of a session, or of none: it always is, since no session's number is 0.
-fn is_numbered(act: &Act) -> bool
-    ensures { IsNumbered act.now }
-{
-    match act {
-        Act::Send(session, _) => session.number() != 0,
-        Act::Close(session) => session.number() != 0,
-        Act::Reset(session) => session.number() != 0,
-        Act::Bind(session, _) => session.number() != 0,
-        Act::Exist(session) => session.number() != 0,
-        Act::Info(session) => session.number() != 0,
-        Act::Task(_, _) => true,
-        Act::Finish(_) => true,
-        Act::Table(_) => true,
-        Act::Stats(_) => true,
-        Act::Shutdown => true,
-        Act::Done => true,
     }
 }
