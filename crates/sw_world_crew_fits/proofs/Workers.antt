@@ -1,5 +1,5 @@
 -- All workers beside the family's.
-use Rattle.std.proofs.Common.{◌≡◌, ℕ, zero, suc, ◌+◌, ◌<◌, List, [], ◌∷◌, ◌++◌, length, map, replicate, slice_set, refl, ap, ◌∙◌, sym, subst, arith}
+use Rattle.std.proofs.Common.{◌≡◌, ℕ, suc, ◌+◌, List, [], ◌∷◌, ◌++◌, length, map, replicate, slice_set, refl, ap, ◌∙◌, sym, subst, arith}
 use Rattle.sw_base.specs.declared.table.Value.{Value}
 use Rattle.sw_column.specs.declared.column.Column.{Column}
 use Rattle.sw_column.specs.Values.{HasKinds}
@@ -8,7 +8,7 @@ use Rattle.sw_data.specs.declared.messages.Ask.{Ask}
 use Rattle.sw_step.specs.declared.actor.ActorId.TheVariants.{Worker}
 use Rattle.sw_port_board.specs.PlainBoard.{PlainWords}
 use Rattle.sw_port_book.specs.Plain.{Words}
-use Rattle.sw_record.specs.Words.{Given, EventGiven, AnswerGiven, Act, Log}
+use Rattle.sw_record.specs.Words.{Given, EventGiven, AnswerGiven, Log}
 use Rattle.sw_record.specs.Terms.{Terms}
 use Rattle.sw_table_laws.specs.Table.{Shape}
 use Rattle.sw_tmodel.specs.Plain.{PlainTable}

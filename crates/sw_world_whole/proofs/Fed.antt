@@ -1,5 +1,5 @@
 -- A link whose script goes on tells what it told.
-use Rattle.std.proofs.Common.{◌≡◌, ℕ, List, [], ◌∷◌, refl, ap, ◌∙◌, sym, subst, Option, Some, None}
+use Rattle.std.proofs.Common.{◌≡◌, ℕ, List, [], ◌∷◌, refl, ◌∙◌, sym, subst, Option, Some, None}
 use Rattle.sw_step.specs.declared.actor.ActorId.{ActorId}
 use Rattle.sw_data.specs.declared.ended.Ended.{Ended}
 use Rattle.sw_data.specs.declared.messages.Msg.TheVariants as msgs

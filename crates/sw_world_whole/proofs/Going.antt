@@ -1,20 +1,17 @@
 -- Turns of the code are steps of the world.
-use Rattle.std.proofs.Common.{◌≡◌, ◌⊎◌, ℕ, ◌<◌, ◌≤◌, Bool, true, false, List, [], ◌∷◌, ◌++◌, length, refl, ap, ◌∙◌, sym, subst, arith, inl, inr, Some, slice_get, slice_set}
+use Rattle.std.proofs.Common.{◌≡◌, ◌⊎◌, ℕ, ◌<◌, ◌≤◌, true, false, List, length, refl, ap, ◌∙◌, sym, subst, arith, inl, inr, Some, slice_get, slice_set}
 use Rattle.sw_step.specs.declared.actor.ActorId.{ActorId}
 use Rattle.sw_step.specs.declared.actor.ActorId.TheVariants.{Door, Reactor, Worker, Tasker}
-use Rattle.sw_data.specs.declared.ended.Ended.{Ended}
-use Rattle.sw_link.specs.declared.memory_link.MemoryLink.{MemoryLink}
 use Rattle.sw_port_book.specs.Plain.{Words}
 use Rattle.sw_port_board.specs.PlainBoard.{PlainWords}
 use Rattle.sw_record.specs.Terms.{Terms}
-use Rattle.sw_record.specs.Words.{EventGiven, AnswerGiven, Given, Act}
-use Rattle.sw_past.specs.Routes.{IsHand as IsHandOf}
+use Rattle.sw_record.specs.Words.{EventGiven, AnswerGiven}
 use Rattle.sw_table_laws.specs.Table.{Shape}
 use Rattle.sw_join.specs.Legal.{LegalFor}
 use Rattle.sw_tmodel.specs.Plain.{PlainTable}
 use Rattle.sw_world_ports.specs.Calls.{Did}
 use Rattle.sw_world_ports.specs.Ports.{Ports, all_ported, set_at}
-use Rattle.sw_world_laws.specs.World.{Core, Goes as GoesStep, there, turned, next, IsTurn}
+use Rattle.sw_world_laws.specs.World.{Core, Goes as GoesStep, there, IsTurn}
 use Rattle.sw_world_laws.specs.History.{diary_of}
 use Rattle.sw_world_laws.specs.Law.{Law}
 use Rattle.sw_world_laws.proofs.Reached.{next_keeps}
@@ -23,7 +20,7 @@ use Rattle.sw_world_fits.specs.Board.{number_of, BoardStands}
 use Rattle.sw_hand.specs.Ports.{Acting}
 use Rattle.sw_hand.specs.Hand.{IsHand, HasRow}
 use Rattle.sw_hand.specs.declared.hand.Hand.{Hand as CodeHand}
-use Rattle.sw_hand_calls.specs.Calls.{around, turn_calls_of, TurnsBy}
+use Rattle.sw_hand_calls.specs.Calls.{turn_calls_of, TurnsBy}
 use Rattle.sw_worker.specs.Generations.{Line, Acts}
 use Rattle.sw_hand_laws.specs.Kept.{GotFits}
 use Rattle.sw_world_hands.specs.Hands.{HandState, Crews, HandHolds, hand_got}
@@ -32,16 +29,15 @@ use Rattle.sw_world_hand_fits.specs.Hands.{Numbers, Tells}
 use Rattle.sw_world_hand_fits.proofs.Workers.{worker_goes, worker_tells, tasker_tells}
 use Rattle.sw_world_places.specs.Ends.{Keeping, HasRoom, Puts}
 use Rattle.sw_world_places.specs.Pipes.{Asking, Getting}
-use Rattle.sw_world_places.specs.Places.{Rows, AtRow, Goes}
-use Rattle.sw_world_places.specs.declared.place.Next.TheVariants.{Asked}
+use Rattle.sw_world_places.specs.Places.{Rows, Goes}
 use Rattle.sw_world_front.specs.declared.front.Front.{Front}
 use Rattle.sw_world_front.specs.Front.{TurnsFront}
 use Rattle.sw_world_door.specs.Doors.{DoorState}
 use Rattle.sw_reactor_table.specs.Reactor.{Reactor as Table}
 use Rattle.sw_reactor.specs.Serving.{Turns}
 use Rattle.sw_reactor_fits.specs.Told.{BringsNew}
-use Rattle.sw_world_reactor_fits.specs.Plain.{memory_tells, plain_ports, ReactorIs}
-use Rattle.sw_world_stands.specs.Asked.{got_of, ask_of}
+use Rattle.sw_world_reactor_fits.specs.Plain.{memory_tells, plain_ports}
+use Rattle.sw_world_stands.specs.Asked.{got_of}
 use Rattle.sw_world_stands.specs.New.{AskNew}
 use Rattle.sw_world_stands.specs.Links.{LinksStand}
 use Rattle.sw_world_stands.proofs.Gets.{some_same, get_same}
@@ -50,7 +46,7 @@ use Rattle.sw_world_asks.specs.Due.{TurnIsDue, TurnIsStep}
 use Rattle.sw_world_asks.proofs.Due.{turn_due, turn_steps, turn_leaves}
 use Rattle.sw_world_steps.specs.Server.{IsServed, server, AState, of_door, of_reactor, of_hand}
 use Rattle.sw_world_steps.specs.Shared.{SharedStands}
-use Rattle.sw_world_steps.specs.Turns.{itself, went, failed, Keeps, DoorGoes, ReactorGoes, HandGoes, HandWent}
+use Rattle.sw_world_steps.specs.Turns.{itself, went, failed, Keeps, DoorGoes, ReactorGoes, HandWent}
 use Rattle.sw_world_steps.proofs.Door.{door_goes}
 use Rattle.sw_world_steps.proofs.Reactors.{reactor_goes}
 use Rattle.sw_world_steps.proofs.Hands.{hand_goes}

@@ -1,5 +1,5 @@
 -- Before any step the code stands for the world's start.
-use Rattle.std.proofs.Common.{◌≡◌, ◌⊎◌, ℕ, zero, suc, ◌+◌, ◌<◌, ◌≤◌, ◌^◌, Bool, true, false, if◌then◌else◌, List, [], ◌∷◌, length, refl, ap, ◌∙◌, sym, subst, arith, inl, inr, replicate, slice_index_or}
+use Rattle.std.proofs.Common.{◌≡◌, ℕ, zero, suc, ◌+◌, ◌<◌, ◌^◌, Bool, true, false, if◌then◌else◌, [], refl, ap, ◌∙◌, sym, subst, inr, replicate, slice_index_or}
 use Rattle.std.proofs.lemmas.List.{length-replicate}
 use Rattle.sw_step.specs.declared.actor.ActorId.{ActorId}
 use Rattle.sw_step.specs.declared.actor.ActorId.TheVariants.{Door, Reactor, Worker, Tasker}
@@ -7,27 +7,27 @@ use Rattle.sw_step.specs.Actors.{is}
 use Rattle.sw_base.specs.declared.counter.Counter.{Counter}
 use Rattle.sw_base.specs.declared.counter.Counter.TheVariants.{Accepted, Ended, Packets, Sends, Tasks, Finishes}
 use Rattle.sw_port_book.specs.declared.word.Word.{Word}
-use Rattle.sw_port_book.specs.Plain.{Words, free, word_in}
+use Rattle.sw_port_book.specs.Plain.{Words, free}
 use Rattle.sw_port_board.specs.PlainBoard.{PlainWords, plain_words, no_counts, count_of}
 use Rattle.sw_record.specs.Terms.{Terms}
 use Rattle.sw_table_laws.specs.Table.{Shape}
 use Rattle.sw_join.specs.Legal.{LegalFor}
 use Rattle.sw_world_ports.specs.Ports.{new_ports}
 use Rattle.sw_world_laws.specs.Turns.{GotStart}
-use Rattle.sw_world_laws.specs.World.{Gave, Core, there, start}
+use Rattle.sw_world_laws.specs.World.{Gave, there, start}
 use Rattle.sw_world_laws.proofs.Mix.{mix_start}
 use Rattle.sw_world_laws.proofs.Reached.{start_keeps}
 use Rattle.sw_world_fits.specs.Book.{BookStands}
 use Rattle.sw_world_fits.specs.Board.{number_of, BoardStands}
 use Rattle.sw_world_places.specs.Places.{Rows}
-use Rattle.sw_reactor_table.specs.Reactor.{Reactor as Table, started}
+use Rattle.sw_reactor_table.specs.Reactor.{started}
 use Rattle.sw_world_reactor.specs.Reactors.{is_reactor}
-use Rattle.sw_world_hands.specs.Hands.{HandState, Crews, new_hand, is_hand}
-use Rattle.sw_world_door.specs.Doors.{DoorState, new_door}
-use Rattle.sw_world_door.proofs.Resting.{Resting, ARest}
+use Rattle.sw_world_hands.specs.Hands.{Crews, new_hand, is_hand}
+use Rattle.sw_world_door.specs.Doors.{new_door}
+use Rattle.sw_world_door.proofs.Resting.{ARest}
 use Rattle.sw_world_stands.specs.Rows.{RowsStand}
 use Rattle.sw_world_stands.proofs.Starts.{new_stand}
-use Rattle.sw_world_steps.specs.Server.{IsServed, server, AState, of_reactor, of_hand}
+use Rattle.sw_world_steps.specs.Server.{IsServed, server, of_reactor, of_hand}
 use Rattle.sw_world_whole.specs.Parts.{Parts, Views}
 use Rattle.sw_world_whole.specs.Whole.{ActorStands, ActorIsNew, IsNewCore, Stands}
 

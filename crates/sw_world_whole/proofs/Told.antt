@@ -1,23 +1,16 @@
 -- What code that stands for a core tells of it.
-use Rattle.std.proofs.Common.{◌≡◌, ℕ, ◌+◌, ◌<◌, true, List, ◌++◌, map, refl, ap, ◌∙◌, sym, subst, Some, slice_get}
+use Rattle.std.proofs.Common.{◌≡◌, ℕ, ◌+◌, ◌<◌, true, ◌++◌, map, ap, ◌∙◌, sym, subst, Some, slice_get}
 use Rattle.sw_lists.specs.Lists.{collect}
 use Rattle.sw_step.specs.declared.actor.ActorId.{ActorId}
 use Rattle.sw_step.specs.declared.actor.ActorId.TheVariants.{Reactor, Worker, Tasker}
 use Rattle.sw_data.specs.declared.messages.Ask.TheVariants.{Finished}
-use Rattle.sw_record.specs.declared.record.LinkRecord.{LinkRecord}
 use Rattle.sw_record.specs.Terms.{Terms}
-use Rattle.sw_record.specs.Words.{Log}
-use Rattle.sw_record.specs.Sessions.{accepted, SessionsRise}
-use Rattle.sw_record.specs.Right.{Right}
-use Rattle.sw_record.specs.Drained.{Drained}
-use Rattle.sw_record.specs.AfterSeen.{AfterSeen}
 use Rattle.sw_table_laws.specs.Table.{Shape}
 use Rattle.sw_join.specs.Legal.{LegalFor}
 use Rattle.sw_world_laws.specs.Turns.{AskTake, AskPush, AskNothing, AskRest, AskFinished, Diary}
 use Rattle.sw_world_laws.specs.World.{Pending, Waits, Gave, Lost, Core, there}
 use Rattle.sw_world_laws.specs.History.{diary_of, LocalBy}
 use Rattle.sw_world_laws.specs.Law.{IsSound}
-use Rattle.sw_world_laws.specs.Account.{account, outside}
 use Rattle.sw_world_laws.specs.Runs.{AllDone, IsServer}
 use Rattle.sw_world_laws.proofs.Locals.{lt_test}
 use Rattle.sw_world_laws.proofs.Right.{right_world, drained_world, seen_world, rise_world}
@@ -29,7 +22,6 @@ use Rattle.sw_world_hands.specs.Hands.{HandState, Crews}
 use Rattle.sw_world_hand_fits.proofs.Telling.{line_log}
 use Rattle.sw_world_reactor_fits.specs.Plain.{live_of, over_of}
 use Rattle.sw_world_reactor_fits.proofs.Others.{kept_is}
-use Rattle.sw_world_places.specs.declared.place.Next.{Next}
 use Rattle.sw_world_places.specs.declared.place.Next.TheVariants.{Asked}
 use Rattle.sw_world_places.specs.declared.place.Place.{Place}
 use Rattle.sw_world_stands.specs.Asked.{next_of}

@@ -1,5 +1,5 @@
 -- The code of the core stands for a world that keeps its law, and its steps are steps of the world.
-use Rattle.std.specs.Prelude.{◌≡◌, ℕ, ◌+◌, true, false, [], replicate, slice_get, Some}
+use Rattle.std.specs.Prelude.{◌≡◌, ◌+◌, true, false, [], replicate, slice_get, Some}
 use Rattle.sw_step.specs.declared.actor.ActorId.{ActorId}
 use Rattle.sw_step.specs.declared.actor.ActorId.TheVariants.{Door, Reactor, Worker, Tasker}
 use Rattle.sw_record.specs.Words.{Log}
