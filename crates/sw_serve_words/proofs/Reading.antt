@@ -1,5 +1,5 @@
 -- Words read one by one.
-use Rattle.std.proofs.Common.{◌≡◌, ℕ, List, [], ◌∷◌, length, map, String, Global, string_bytes, Some, None, ap}
+use Rattle.std.proofs.Common.{◌≡◌, ℕ, List, ◌∷◌, length, map, String, Global, string_bytes, Some, None, ap}
 use Rattle.std.proofs.lemmas.List.{nil_from_length}
 use Rattle.sw_serve_words.specs.declared.kind.Kind.TheVariants.{Tool}
 use Rattle.sw_serve_words.specs.declared.load.LoadWords.{LoadWords}
