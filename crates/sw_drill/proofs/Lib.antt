@@ -1,4 +1,3 @@
 pub mod LineSteps
 pub mod GrammarLaw
 pub mod EachLaw
-pub mod NameLaw

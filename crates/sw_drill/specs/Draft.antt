@@ -8,8 +8,9 @@ use Rattle.sw_text.specs.Hex.{bytes_of}
 use Rattle.sw_text.specs.Addresses.{ip_of}
 use Rattle.sw_thin_record.specs.declared.step.Step.{Step}
 use Rattle.sw_thin_record.specs.declared.step.Step.TheVariants.{Arrive, Piece, End, Turn}
-use Rattle.sw_drill.specs.Fields.{actor_of, is_setting_name, value_of}
-use Rattle.sw_drill.specs.Pairs.{with_pair}
+use Rattle.sw_set_lines.specs.Values.{is_setting_name, value_of}
+use Rattle.sw_set_lines.specs.Pairs.{with_pair}
+use Rattle.sw_drill.specs.Fields.{actor_of}
 use Rattle.sw_drill.specs.declared.schedule.Line.{Line}
 use Rattle.sw_drill.specs.declared.schedule.Line.TheVariants as lines
 use Rattle.sw_drill.specs.declared.schedule.Drill.{Drill}

@@ -1,4 +1,3 @@
-pub mod Pairs
 pub mod Fields
 pub mod Draft
 pub mod Grammar

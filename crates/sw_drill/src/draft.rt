@@ -4,11 +4,11 @@ ghost use Rattle.std.specs.Prelude.{◌≡◌, ℕ, List, Option, Some, None, Bo
 ghost use Rattle.sw_text.specs.Numbers.{number_within};
 ghost use Rattle.sw_drill.specs.Draft.{opened, open_of, sent, data_of, closed, end_of, turn_of, turns_of, run_of, named, after_step, after_line, set_read, is_in_front, set_at, schedule_read, worded, line_read, fresh};
 
-use crate::fields::{actor, is_setting_name, set_value};
-use crate::pairs::Pairs;
+use crate::fields::actor;
 use crate::schedule::{Line, Lines};
 use std::alloc::Global;
 use sw_base::{Octets, OutOfMemory};
+use sw_set_lines::{Pairs, is_setting_name, set_value};
 use sw_text::{bytes, cut, ip, is, number_within, part};
 use sw_thin_record::Step;
 

@@ -4,12 +4,10 @@
 
 mod draft;
 mod fields;
-mod pairs;
 mod printing;
 mod reading;
 mod schedule;
 
-pub use pairs::Pairs;
 pub use printing::print;
 pub use reading::{read, reading_is_exact};
 pub use schedule::{Drill, Line, Lines};

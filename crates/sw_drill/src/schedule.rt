@@ -1,7 +1,7 @@
 //! What a schedule says, line by line.
 
-use crate::pairs::Pairs;
 use sw_base::Items;
+use sw_set_lines::Pairs;
 use sw_thin_record::{ActorId, Step};
 
 /// A line of a schedule. One line may stand for many steps.

@@ -1,7 +1,3 @@
-pub mod Peel
-pub mod Cuts
-pub mod Items
-pub mod Words
 pub mod Heads
 pub mod Sets
 pub mod Lines

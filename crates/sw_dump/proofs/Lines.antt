@@ -17,8 +17,8 @@ use Rattle.sw_audit.specs.Verdicts.{table_of}
 use Rattle.sw_dump.specs.declared.refill.Refill.{Refill}
 use Rattle.sw_dump.specs.Texts.{head_line, set_words, set_line, columns_text}
 use Rattle.sw_dump.specs.Restores.{made_from, restored, restored_text, IsSet}
-use Rattle.sw_dump.proofs.Cuts.{Without, line_plain as ends_line}
-use Rattle.sw_dump.proofs.Items.{Each}
+use Rattle.sw_call_texts.proofs.Cuts.{Without, line_plain as ends_line}
+use Rattle.sw_call_texts.proofs.Items.{Each}
 use Rattle.sw_dump.proofs.Sets.{line_read, line_plain}
 
 -- ---- lines read one after the other

@@ -23,40 +23,17 @@ use Rattle.sw_audit.specs.declared.trace.TraceLine.{TraceLine}
 use Rattle.sw_audit.specs.Grammar.{behind_word, table_text, without_lines, table_of_line, IsTrace}
 use Rattle.sw_dump.specs.declared.refill.Refill.{Refill}
 use Rattle.sw_dump.specs.Grammar.{fit_value, in_front, values_for, key_of, row_of, is_above, risen, with_row, then_rows, rows_from, kept_first, kept, set_of, with_calls, behind_dump, behind_into, refill_lines, refill_of}
-use Rattle.sw_dump.specs.Restores.{IsValue, IsPair, IsSet, IsRefill}
-use Rattle.sw_dump.proofs.Peel.{first_of, kept_by}
-use Rattle.sw_dump.proofs.Cuts.{Without}
+use Rattle.sw_call_texts.specs.Spelled.{IsValue, IsPair}
+use Rattle.sw_call_texts.proofs.ValueLaw.{value_is}
+use Rattle.sw_dump.specs.Restores.{IsSet, IsRefill}
+use Rattle.sw_call_texts.proofs.Peel.{first_of, kept_by}
+use Rattle.sw_call_texts.proofs.Cuts.{Without}
 use Rattle.sw_dump.proofs.Heads.{AreNamed, IsHead, head_is}
 
 -- ---- values
 
-octets_fit : (text t : List ℕ) → octets_of text ≡ Some t → AllByRecursion (λ b. b < 256) t
-octets_fit [] t e = let none : [] ≡ t = cc in subst (λ (xs : List ℕ). AllByRecursion (λ b. b < 256) xs) none tt
-octets_fit (b ∷ bs) t e = let law = bytes (b ∷ bs) t in let spelt = law.0 e in spelt.2
-
-text_fits : (text : List ℕ) (v : Value) → text_value text ≡ Some v → IsValue v
-unfolding text_value
-text_fits text v e =
-    let t = first_of (octets_of text) (λ (t : List ℕ). Some (Text t)) v e in
-    let same : Text t.0 ≡ v = let f = t.2 in cc in
-    subst IsValue same (octets_fit text t.0 t.1)
-
-number_fits : (text : List ℕ) (v : Value) → number_value text ≡ Some v → IsValue v
-unfolding number_value
-number_fits text v e =
-    let n = first_of (signed_of text) (λ (n : ℤ). Some (Int n)) v e in
-    let same : Int n.0 ≡ v = let f = n.2 in cc in
-    let law = signed text n.0 in
-    let spelt = law.0 n.1 in
-    subst IsValue same spelt.1
-
-value_by : (t : Bool) (b : ℕ) (bs : List ℕ) (v : Value) → cond t (text_value bs) (number_value (b ∷ bs)) ≡ Some v → IsValue v
-value_by true b bs v e = text_fits bs v e
-value_by false b bs v e = number_fits (b ∷ bs) v e
-
 value_fits : (text : List ℕ) (v : Value) → value_of text ≡ Some v → IsValue v
-value_fits [] v e = absurd cc
-value_fits (b ∷ bs) v e = value_by (eqb b 120) b bs v e
+value_fits text v e = (value_is text v e).0
 
 fit_fits : (c : Column) (text : List ℕ) (v : Value) → fit_value c text ≡ Some v → IsValue v
 unfolding fit_value

@@ -32,48 +32,14 @@ use Rattle.sw_call.specs.Calls.{pair_of, pairs_of, set_of, verb_of, keyed_of, ca
 use Rattle.sw_call.specs.Replies.{only, reply_of}
 use Rattle.sw_audit.specs.declared.trace.TraceLine.{TraceLine}
 use Rattle.sw_audit.specs.Grammar.{before_space, arrow_parts, fit_call, line_of}
-use Rattle.sw_dump.specs.Texts.{value_text, pair_text, set_text, call_text, reply_text, set_words}
-use Rattle.sw_dump.specs.Restores.{IsValue, IsPair, IsSet}
-use Rattle.sw_dump.proofs.Cuts.{Without, without-append, cut_plain, cut_none, part_plain}
-use Rattle.sw_dump.proofs.Items.{Each, piece_plain, piece_last, each_back}
-use Rattle.sw_dump.proofs.Words.{IsWord, without_low, without_mid, number_word, hex_word, name_word, value_word}
-
--- ---- closed texts
-
-without_by : (sep b : ℕ) (bs : List ℕ) (t : Bool) → eqb b sep ≡ t → (not t && list_all (λ c. not (eqb c sep)) bs) ≡ true → (¬ (b ≡ sep)) × (list_all (λ c. not (eqb c sep)) bs ≡ true)
-without_by sep b bs true is e = absurd cc
-without_by sep b bs false is e = (eqb-false b sep is, e)
-
-pub without_test : (sep : ℕ) (xs : List ℕ) → list_all (λ c. not (eqb c sep)) xs ≡ true → Without sep xs
-without_test sep [] e = tt
-without_test sep (b ∷ bs) e = let t = without_by sep b bs (eqb b sep) refl e in (t.0, without_test sep bs t.1)
-
--- ---- values
-
-digits_low : (ds : List ℕ) → AreDigits ds → Without 120 ds
-digits_low [] d = tt
-digits_low (b ∷ bs) d = let high = d.1 in ((λ (e : b ≡ 120). omega (arith, high, e)), digits_low bs d.2)
-
-signed_low : (z : ℤ) → FitsSigned z → Without 120 (signed_decimal z)
-signed_low (pos n) fits = digits_low (decimal n) (digits_decimal own n (omega (arith, fits)))
-signed_low (negsuc n) fits = ((λ (e : 45 ≡ 120). omega (arith, e)), digits_low (decimal (suc n)) (digits_decimal own (suc n) (omega (arith, fits))))
-
-number_first : (text : List ℕ) (z : ℤ) → signed_of text ≡ Some z → Without 120 text → value_of text ≡ Some (Int z)
-unfolding number_value
-number_first [] z e w = absurd cc
-number_first (b ∷ bs) z e w = let other : eqb b 120 ≡ false = ne_eqb b 120 w.0 in rw (other, e) refl
-
-octets_back : (t : List ℕ) → AllByRecursion (λ b. b < 256) t → octets_of (hex t) ≡ Some t
-octets_back [] fits = refl
-octets_back (b ∷ bs) fits = let law = bytes (hex (b ∷ bs)) (b ∷ bs) in law.1 (refl, omega arith, fits)
-
-text_back : (t : List ℕ) → AllByRecursion (λ b. b < 256) t → text_value (hex t) ≡ Some (Text t)
-unfolding text_value
-text_back t fits = rw (octets_back t fits) refl
-
-pub value_back : (v : Value) → IsValue v → value_of (value_text v) ≡ Some v
-value_back (Int z) fits = let law = signed (signed_decimal z) z in number_first (signed_decimal z) z (law.1 (refl, fits)) (signed_low z fits)
-value_back (Text t) fits = text_back t fits
+use Rattle.sw_log_text.specs.Values.{value_text}
+use Rattle.sw_dump.specs.Texts.{pair_text, set_text, call_text, reply_text, set_words}
+use Rattle.sw_call_texts.specs.Spelled.{IsValue, IsPair}
+use Rattle.sw_dump.specs.Restores.{IsSet}
+use Rattle.sw_call_texts.proofs.Cuts.{Without, without-append, cut_plain, cut_none, part_plain, without_test}
+use Rattle.sw_call_texts.proofs.Items.{Each, piece_plain, piece_last, each_back}
+use Rattle.sw_call_texts.proofs.Words.{IsWord, without_low, without_mid, number_word, hex_word, name_word, value_word}
+use Rattle.sw_call_texts.proofs.ValueLaw.{value_back}
 
 -- ---- pairs
 

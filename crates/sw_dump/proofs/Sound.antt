@@ -18,9 +18,9 @@ use Rattle.sw_dump.specs.declared.fault.RestoreFault.{RestoreFault}
 use Rattle.sw_dump.specs.Texts.{columns_text}
 use Rattle.sw_dump.specs.Grammar.{refill_of}
 use Rattle.sw_dump.specs.Restores.{restored, restored_text, IsFit, IsRestoredBy, IsSound}
-use Rattle.sw_dump.proofs.Cuts.{Without, without-append, without_front}
+use Rattle.sw_call_texts.proofs.Cuts.{Without, without-append, without_front}
 use Rattle.sw_dump.proofs.Heads.{tail_of, head_is, head_again}
-use Rattle.sw_dump.proofs.Sets.{without_test}
+use Rattle.sw_call_texts.proofs.Cuts.{without_test}
 use Rattle.sw_dump.proofs.Lines.{trace_back}
 use Rattle.sw_dump.proofs.Refills.{IsMade, is_made}
 use Rattle.sw_dump.proofs.Verdicts.{is_verdict}

@@ -2,17 +2,16 @@
 use Rattle.std.specs.Prelude.{◌≡◌, ℕ, ◌+◌, ◌<◌, List, [], ◌∷◌, ◌++◌, codes, length, slice_get, All, Bool, true, Option, Some, None, Result, Ok, Err}
 use Rattle.std.specs.List.{flat_map, AllByRecursion}
 use Rattle.std.specs.FinMap as map
-use Rattle.sw_text.specs.Numbers.{FitsSigned}
 use Rattle.sw_base.specs.declared.table.Value.{Value}
-use Rattle.sw_base.specs.declared.table.Value.TheVariants as values
 use Rattle.sw_base.specs.declared.table.Call.{Call}
 use Rattle.sw_base.specs.declared.table.Call.TheVariants as calls
 use Rattle.sw_base.specs.declared.table.CallFault.{CallFault}
 use Rattle.sw_column.specs.declared.column.Column.{Column}
-use Rattle.sw_column.specs.Columns.{column_of, is_name}
+use Rattle.sw_column.specs.Columns.{column_of}
 use Rattle.sw_column.specs.Fit.{call_fault, at_column, is_key}
 use Rattle.sw_table_laws.specs.Table.{Shape, State, TStep}
 use Rattle.sw_call.specs.Replies.{only}
+use Rattle.sw_call_texts.specs.Spelled.{IsPair}
 use Rattle.sw_audit.specs.declared.trace.Trace.{Trace}
 use Rattle.sw_audit.specs.declared.trace.TraceLine.{TraceLine}
 use Rattle.sw_audit.specs.declared.verdict.Verdict.TheVariants as verdicts
@@ -96,14 +95,6 @@ abbrev pub IsSound : List ℕ → List ℕ → Type 0
 IsSound text out = (r : Refill) × (refill_of text ≡ Ok r) × (trace_of out ≡ Ok (restored r)) × IsAudit out (Ok (verdicts.Ok (length r.calls)))
 
 -- ---- what holds of every restore that was read; not seen from outside
-
--- a number that fits 64 bits, or bytes
-abbrev pub IsValue : Value → Type 0
-IsValue (values.Int n) = FitsSigned n
-IsValue (values.Text t) = AllByRecursion (λ b. b < 256) t
-
-abbrev pub IsPair : List ℕ × Value → Type 0
-IsPair p = (is_name p.0 ≡ true) × IsValue p.1
 
 abbrev pub IsSet : Call → Type 0
 IsSet (calls.Set key pairs) = (is_key key ≡ true) × AllByRecursion (λ b. b < 256) key × AllByRecursion IsPair pairs

@@ -1,11 +1,10 @@
 -- A Table's columns, its rows and Sets of them as a text.
 use Rattle.std.specs.Prelude.{ℕ, List, [], ◌∷◌, ◌++◌, codes}
-use Rattle.std.specs.Fmt.{decimal, signed_decimal}
+use Rattle.std.specs.Fmt.{decimal}
 use Rattle.std.specs.List.{flat_map}
 use Rattle.std.specs.FinMap.{entries}
 use Rattle.sw_text.specs.Hex.{hex}
 use Rattle.sw_base.specs.declared.table.Value.{Value}
-use Rattle.sw_base.specs.declared.table.Value.TheVariants as values
 use Rattle.sw_base.specs.declared.table.Call.{Call}
 use Rattle.sw_base.specs.declared.table.Call.TheVariants as calls
 use Rattle.sw_base.specs.declared.table.Reply.{Reply}
@@ -13,13 +12,9 @@ use Rattle.sw_base.specs.declared.table.Reply.TheVariants as replies
 use Rattle.sw_column.specs.declared.column.Column.{Column}
 use Rattle.sw_column.specs.declared.column.Kind.{Kind}
 use Rattle.sw_column.specs.declared.column.Kind.TheVariants as kinds
+use Rattle.sw_log_text.specs.Values.{value_text}
 use Rattle.sw_tmodel.specs.Plain.{PlainTable}
 use Rattle.sw_audit.specs.declared.trace.TraceLine.{TraceLine}
-
--- a number with its sign, or an x and two digits for each byte
-abbrev pub value_text : Value → List ℕ
-value_text (values.Int n) = signed_decimal n
-value_text (values.Text t) = codes "x" ++ hex t
 
 abbrev pub spaced_value : Value → List ℕ
 spaced_value v = codes " " ++ value_text v

@@ -3,7 +3,8 @@ ghost use Rattle.std.specs.Prelude.{◌≡◌, ◌++◌, codes, IfOk, OnOk, stri
 ghost use Rattle.std.specs.Fmt.{decimal};
 ghost use Rattle.std.specs.List.{flat_map};
 ghost use Rattle.sw_tmodel.specs.Dumps.{pair_of};
-ghost use Rattle.sw_dump.specs.Texts.{value_text, spaced_value, values_text, row_line, kind_text, column_text, comma_column, columns_text, head_line, pair_text, set_text, call_text, reply_text, set_words, set_line_of};
+ghost use Rattle.sw_log_text.specs.Values.{value_text};
+ghost use Rattle.sw_dump.specs.Texts.{spaced_value, values_text, row_line, kind_text, column_text, comma_column, columns_text, head_line, pair_text, set_text, call_text, reply_text, set_words, set_line_of};
 
 use std::alloc::{AllocError, Global};
 use sw_base::{Call, Name, Octets, OutOfMemory, Pairs, Reply, Value};

@@ -1,9 +1,9 @@
 //! Answers as texts, read.
 
-use crate::events::small;
 use std::alloc::Global;
 use sw_base::{CallFault, OutOfMemory};
 use sw_call::reply;
+use sw_case_texts::small;
 use sw_data::Answer;
 use sw_text::number;
 

@@ -2,9 +2,9 @@
 
 ghost use Rattle.std.specs.Prelude.{◌<◌};
 
-use crate::case::Case;
 use std::alloc::Global;
 use sw_base::OutOfMemory;
+use sw_case_texts::Case;
 use sw_http::{HttpCutter, HttpNext};
 use sw_text::{bytes, number, number_within};
 

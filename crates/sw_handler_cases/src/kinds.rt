@@ -1,20 +1,19 @@
 //! The cases one by one, each by its kind.
 
-use crate::case::Case;
-use crate::{http, script};
+use crate::{http, schedule, script};
 use std::alloc::Global;
 use sw_base::OutOfMemory;
+use sw_case_texts::{Case, cases};
 
 fn put_case(alloc: Global, out: &mut String, case: &Case) -> Result<(), OutOfMemory> {
-    if case.name.is_empty() {
-        return Ok(());
-    }
     writeln!(out, "\ncase {}", case.name)?;
     let (kind, words) = case.kind.split_once(" ").unwrap_or((case.kind, ""));
     match kind {
         "script" => script::put(alloc, out, case, words),
         "http" => http::put(alloc, out, case, words),
         "rules" => script::put_rules(alloc, out, case),
+        "schedule" => schedule::put(alloc, out, case),
+        "schedules" => schedule::put_verdicts(alloc, out, case),
         _ => Ok(out.push_str("no such kind\n")?),
     }
 }
@@ -22,15 +21,11 @@ fn put_case(alloc: Global, out: &mut String, case: &Case) -> Result<(), OutOfMem
 /// What all cases of the text came to.
 pub fn played(alloc: Global, text: &str) -> Result<String, OutOfMemory> {
     let mut out = String::new(alloc);
-    let mut case = Case::new(alloc, "");
-    for line in text.lines() {
-        if let Some(name) = line.strip_prefix("case ") {
-            put_case(alloc, &mut out, &case)?;
-            case = Case::new(alloc, name);
-        } else if !line.is_empty() && !line.starts_with("#") {
-            case.add(line)?;
+    let cases = cases(alloc, text)?;
+    for case in &cases {
+        if !case.name.is_empty() {
+            put_case(alloc, &mut out, case)?;
         }
     }
-    put_case(alloc, &mut out, &case)?;
     Ok(out)
 }

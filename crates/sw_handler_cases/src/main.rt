@@ -3,10 +3,9 @@
 #![tactic(auto)]
 
 mod answers;
-mod case;
-mod events;
 mod http;
 mod kinds;
+mod schedule;
 mod script;
 
 use std::io;

@@ -1,10 +1,9 @@
 //! Cases of scripts: a script and what a handler that follows it is given in, its acts out.
 
 use crate::answers::answer;
-use crate::case::Case;
-use crate::events::event;
 use std::alloc::Global;
 use sw_base::OutOfMemory;
+use sw_case_texts::{Case, event};
 use sw_data::Given;
 use sw_handler::Handler;
 use sw_http_worker::HttpWorker;
@@ -24,8 +23,8 @@ fn given(alloc: Global, text: &str) -> Result<Option<Given>, OutOfMemory> {
     }
 }
 
-/// Adds a line of the script, with its end where another stands before it.
-fn add(text: &mut String, line: &str) -> Result<(), OutOfMemory> {
+/// Adds a line and its end.
+pub fn add(text: &mut String, line: &str) -> Result<(), OutOfMemory> {
     text.push_str(line)?;
     text.push_str("\n")?;
     Ok(())
@@ -41,7 +40,8 @@ fn repeat(text: &mut String, words: &str) -> Result<(), OutOfMemory> {
     Ok(())
 }
 
-fn script_of(alloc: Global, case: &Case) -> Result<String, OutOfMemory> {
+/// The text that the lines behind `>` and `*` are.
+pub fn text_of(alloc: Global, case: &Case) -> Result<String, OutOfMemory> {
     let mut text = String::new(alloc);
     for line in &case.lines {
         if let Some(line) = line.strip_prefix("> ") {
@@ -56,7 +56,7 @@ fn script_of(alloc: Global, case: &Case) -> Result<String, OutOfMemory> {
 }
 
 /// Gives the handler each of the lines, and prints what it was given and did.
-fn put_acts<H: Handler>(
+pub fn put_acts<H: Handler>(
     alloc: Global,
     out: &mut String,
     handler: &mut H,
@@ -96,7 +96,7 @@ fn put_followed(
 
 /// Plays the case: `script`, with lines of the script and of what the handler is given.
 pub fn put(alloc: Global, out: &mut String, case: &Case, words: &str) -> Result<(), OutOfMemory> {
-    let text = script_of(alloc, case)?;
+    let text = text_of(alloc, case)?;
     match read(alloc, text.as_bytes()) {
         Ok(script) => put_followed(alloc, out, script.copy()?, case, words),
         Err(ScriptFault::BadLine(n)) => Ok(writeln!(out, "line {n} is out of the grammar")?),

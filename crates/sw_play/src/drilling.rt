@@ -9,7 +9,8 @@ use crate::playing::played;
 use std::alloc::Global;
 use sw_answer::{Refusal, is_memory};
 use sw_base::OutOfMemory;
-use sw_drill::{Drill, Pairs, read};
+use sw_drill::{Drill, read};
+use sw_set_lines::Pairs;
 use sw_settings::{Pair, Settings, SettingsFault, core_fault, from_pairs};
 
 /// The settings that the pairs are, or why they are none.

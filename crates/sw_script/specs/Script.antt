@@ -1,6 +1,7 @@
 -- A script, line by line.
-use Rattle.std.specs.Prelude.{◌≡◌, ℕ, ◌+◌, List, [], ◌∷◌, ◌++◌, length, nat_lt, Option, Some, None, Result, Ok, Err, if◌then◌else◌}
+use Rattle.std.specs.Prelude.{ℕ, ◌+◌, List, [], ◌∷◌, ◌++◌, nat_lt, Option, Some, None, Result, Ok, if◌then◌else◌}
 use Rattle.sw_text.specs.Parts.{lines_of}
+use Rattle.sw_lines.specs.Lines.{lines_read, IsRead as AreRead}
 use Rattle.sw_script.specs.declared.rule.On.{On}
 use Rattle.sw_script.specs.declared.rule.On.TheVariants.{Connect, Packet, Closed, Finish, Task}
 use Rattle.sw_script.specs.declared.rule.Rule.{Rule}
@@ -36,32 +37,12 @@ with_ruled s (Some r) = Some (with_rule r.0 r.1 s)
 unfoldable pub line_read : Script → List ℕ → Option Script
 line_read s line = if nat_lt s.count 256 then with_ruled s (rule_of line) else None
 
-abbrev pub numbered : ℕ → Option Script → Result Script ℕ
-numbered n None = Err n
-numbered n (Some s) = Ok s
-
--- the script after the lines, or the number of the first line that is no rule
-unfoldable pub lines_read : ℕ → Result Script ℕ → List (List ℕ) → Result Script ℕ
-lines_read n (Err e) ls = Err e
-lines_read n (Ok s) [] = Ok s
-lines_read n (Ok s) (l ∷ ls) = lines_read (n + 1) (numbered n (line_read s l)) ls
-
 -- the script that a text is, or the number of its first line that isn't in the grammar
 abbrev pub script_of : List ℕ → Result Script ℕ
-script_of text = lines_read 1 (Ok no_rules) (lines_of text)
+script_of text = lines_read line_read 1 (Ok no_rules) (lines_of text)
 
 -- ---- what that means, in terms of the lines alone
 
--- each of the lines is a rule where it stands, and they lead from one script to another
-abbrev pub Leads : Script → List (List ℕ) → Script → Type 0
-Leads s [] e = s ≡ e
-Leads s (l ∷ ls) e = (m : Script) × (line_read s l ≡ Some m) × Leads m ls e
-
--- the line behind these lines is the first one out of the grammar
-abbrev pub IsFirstOut : Script → List (List ℕ) → List (List ℕ) → Type 0
-IsFirstOut s ls front = (e : Script) × (l : List ℕ) × (rest : List (List ℕ)) × Leads s front e × (line_read e l ≡ None) × (ls ≡ front ++ l ∷ rest)
-
 -- what a text is read as: a script where each line is a rule, and else the number, from 1, of the first line that is none
 abbrev pub IsRead : List ℕ → Result Script ℕ → Type 0
-IsRead text (Ok s) = Leads no_rules (lines_of text) s
-IsRead text (Err n) = (front : List (List ℕ)) × IsFirstOut no_rules (lines_of text) front × (n ≡ 1 + length front)
+IsRead text r = AreRead line_read 1 no_rules (lines_of text) r

@@ -1,8 +1,7 @@
 //! A text read whole, line by line.
 
 ghost use Rattle.std.specs.Prelude.{◌≡◌, ℕ, List, Ok, Err, IfOk, IfErr};
-ghost use Rattle.sw_text.specs.Parts.{lines_of};
-ghost use Rattle.sw_script.specs.Script.{no_rules, lines_read, script_of, IsRead};
+ghost use Rattle.sw_script.specs.Script.{script_of, IsRead};
 ghost use Rattle.sw_script.specs.Faults.{IsFault};
 
 use crate::script::Script;
@@ -10,7 +9,7 @@ use std::alloc::Global;
 use std::error::Error;
 use std::fmt;
 use sw_base::OutOfMemory;
-use sw_text::next_line;
+use sw_lines::{LineReader, read_lines};
 
 /// Why a text is no script.
 #[derive(Clone, Copy, Debug, PartialEq, Eq)]
@@ -42,20 +41,14 @@ impl From<OutOfMemory> for ScriptFault {
     }
 }
 
-fn lines(alloc: Global, text: &[u8]) -> Result<Result<Script, u64>, OutOfMemory>
-    ensures { IfOk result (λ r. r ≡ script_of text.now) }
-{
-    let mut script = Script::new(alloc);
-    let mut rest = text;
-    let mut n = 1u64;
-    while let Some((line, after)) = next_line(rest) {
-        if !script.read_line(alloc, line)? {
-            return Ok(Err(n));
-        }
-        rest = after;
-        n += 1;
+impl LineReader for Script {
+    ghost use Rattle.sw_script.specs.Script.{line_read};
+
+    ghost with_line = { line_read };
+
+    fn read_line(&mut self, alloc: Global, line: &[u8]) -> Result<bool, OutOfMemory> {
+        self.take_line(alloc, line)
     }
-    Ok(Ok(script))
 }
 
 /// Reads a text as a script, each line as a rule; an empty text has none. A text is refused for its first line that is no rule,
@@ -64,7 +57,7 @@ pub fn read(alloc: Global, text: &[u8]) -> Result<Script, ScriptFault>
     ensures ok { IfOk result (λ s. script_of text.now ≡ Ok s) }
     ensures fault { IfErr result (IsFault text.now) }
 {
-    match lines(alloc, text)? {
+    match read_lines(alloc, Script::new(alloc), 1, text)? {
         Ok(script) => Ok(script),
         Err(n) => Err(ScriptFault::BadLine(n)),
     }

@@ -67,10 +67,10 @@ impl Script {
         Ok(())
     }
 
-    /// Reads one line more, and answers whether it is a rule and one of the first 256. Where it isn't, and at `OutOfMemory`,
+    /// Takes one line more, and answers whether it is a rule and one of the first 256. Where it isn't, and at `OutOfMemory`,
     /// the script is as before.
     #[tactic(auto, unfolding(crate::specs::Script::line_read))]
-    pub fn read_line(&mut self, alloc: Global, line: &[u8]) -> Result<bool, OutOfMemory>
+    pub fn take_line(&mut self, alloc: Global, line: &[u8]) -> Result<bool, OutOfMemory>
         ensures ok { IfOk result (λ is. line_read self.old line.now ≡ (if is then Some self.new else None)) }
         ensures err { OnErr result (self.new ≡ self.old) }
     {

@@ -62,11 +62,11 @@ ready_parts t n m s r e = subst (λ k. IsReady t k s) e r
 abbrev pub Drew : SharedNow → Call → SeatView → SeatView → ℕ → ℕ → Type 0
 Drew t call old new at n = DrewAt IsFor call_row call_asks call_does t.locks.start (call_on t call) old new at n
 
-drew_of : (t : SharedNow) (call : Call) (old new : SeatView) (at n : ℕ) → Drew t call old new at n → IsSeatOf t.locks old → IsSeatOf t.locks new
+pub drew_of : (t : SharedNow) (call : Call) (old new : SeatView) (at n : ℕ) → Drew t call old new at n → IsSeatOf t.locks old → IsSeatOf t.locks new
 drew_of t call old new at n d of = (ap (λ (w : SeatView). w.id) d.now ∙ of.0, ap (λ (w : SeatView). w.start) d.now ∙ of.1)
 
 -- an answer for a seat that held locks, as one for the seat without them
-answered_free : (t : SharedNow) (old new : SeatView) (call : Call) (row row' : List Value) (at : ℕ) (reply : Reply) → Answered t old new call row row' at reply → Answered t (free old) new call row row' at reply
+pub answered_free : (t : SharedNow) (old new : SeatView) (call : Call) (row row' : List Value) (at : ℕ) (reply : Reply) → Answered t old new call row row' at reply → Answered t (free old) new call row row' at reply
 answered_free t old new call row row' at reply a = record {
   between = a.between;
   seen = a.seen;
@@ -132,7 +132,7 @@ count_done t call seat c none =
     let q : TableCall = call_on t call in
     λ i. call_does q (bucket_held (keyless_row t call none i) seat.row) (pool_held (call_asks q (bucket_held (keyless_row t call none i) seat.row)) seat.pool) c
 
-count_then : (t : SharedNow) (call : Call) (seat : SeatView) (c : ℕ) → key_of call ≡ None → (row_then call_row call_asks call_does (call_on t call) seat.row seat.pool c ≡ seat.row) × (pool_then call_row call_asks call_does (call_on t call) seat.row seat.pool c ≡ seat.pool)
+pub count_then : (t : SharedNow) (call : Call) (seat : SeatView) (c : ℕ) → key_of call ≡ None → (row_then call_row call_asks call_does (call_on t call) seat.row seat.pool c ≡ seat.row) × (pool_then call_row call_asks call_does (call_on t call) seat.row seat.pool c ≡ seat.pool)
 count_then t call seat c none =
     let q : TableCall = call_on t call in (
       (λ i. row_left (keyless_row t call none i) seat.row (done_on call_row call_asks call_does q seat.row seat.pool c).bucket),

@@ -6,3 +6,5 @@ pub mod Waiting
 pub mod Notes
 pub mod Made
 pub mod Lending
+pub mod Parting
+pub mod Copied

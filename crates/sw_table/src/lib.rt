@@ -7,10 +7,12 @@
 
 mod calls;
 mod closing;
+mod copies;
 mod creating;
 mod desk;
 mod hands;
 mod locks;
+mod part;
 mod placing;
 mod table;
 
@@ -20,5 +22,6 @@ pub use creating::create;
 pub use desk::Desk;
 pub use hands::{Hands, Note};
 pub use locks::Locks;
+pub use part::PartFault;
 pub use sw_bucket::{Bucket, Pool};
 pub use table::{Seat, Table};

@@ -82,7 +82,7 @@ impl<T: Drop> Tasker<T> {
 impl<T: Handler> Tasker<T> {
     ghost use Rattle.std.specs.Prelude.{◌≡◌};
     ghost use Rattle.sw_port_book.specs.Answers.{Keeps};
-    ghost use Rattle.sw_hand.specs.Hand.{IsCrew, HasRow, Lasts};
+    ghost use Rattle.sw_hand.specs.Hand.{IsHand, IsCrew, HasRow, Lasts};
     ghost use Rattle.sw_hand_calls.specs.Calls.{rules_of, TurnsBy};
 
     /// One turn: by what the last pipe call gave, it asks for the next one. It waits for nobody. Where the handler or an answer
@@ -100,6 +100,7 @@ impl<T: Handler> Tasker<T> {
         ensures turns { TurnsBy (rules_of B.look_finds B.bind_finds S.call_gives T.acts C.goes C.sizes)
             self.old book.old shelf.old board.old got self.new book.new shelf.new board.new result }
         ensures lasts { Lasts T.made self.old self.new }
+        ensures hand { IsHand self.new }
         ensures book { Keeps B.size B.holds book.old book.new }
         ensures row { HasRow (S.columns shelf.new) self.new.house self.new.row }
         ensures columns { S.columns shelf.new ≡ S.columns shelf.old }

@@ -116,7 +116,7 @@ impl<H: Drop> Worker<H> {
 impl<H: Handler> Worker<H> {
     ghost use Rattle.std.specs.Prelude.{◌≡◌, map};
     ghost use Rattle.sw_port_book.specs.Answers.{Keeps};
-    ghost use Rattle.sw_hand.specs.Hand.{IsCrew, HasRow, Lasts};
+    ghost use Rattle.sw_hand.specs.Hand.{IsHand, IsCrew, HasRow, Lasts};
     ghost use Rattle.sw_worker.specs.Generations.{made};
     ghost use Rattle.sw_hand_calls.specs.Calls.{rules_of};
     ghost use Rattle.sw_worker.specs.Worker.{WorkerTurns};
@@ -136,6 +136,7 @@ impl<H: Handler> Worker<H> {
         ensures turns { WorkerTurns (rules_of B.look_finds B.bind_finds S.call_gives H.acts C.goes C.sizes)
             self.old book.old shelf.old board.old got self.new book.new shelf.new board.new result }
         ensures lasts { Lasts (made H.made) self.old self.new }
+        ensures hand { IsHand self.new }
         ensures book { Keeps B.size B.holds book.old book.new }
         ensures row { HasRow (S.columns shelf.new) self.new.house self.new.row }
         ensures columns { S.columns shelf.new ≡ S.columns shelf.old }

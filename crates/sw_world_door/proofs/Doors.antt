@@ -20,6 +20,7 @@ use Rattle.sw_world_laws.specs.Turns.{Ask, AskPush, AskNothing, Got, GotStart, G
 use Rattle.sw_world_laws.specs.Shows.{DoorShows, fresh_pair, drew_pair}
 use Rattle.sw_world_laws.specs.Done.{DoorDone}
 use Rattle.sw_world_door.specs.Doors.{DoorState, DoorGoes, Reads, NotYet, NetEnds, Draws, Refuses, Finishes, DoorTurn, says, IsLinkTo, DoorHolds, DoorQuiet, DoorDoneLaw, SaysNext}
+use Rattle.sw_world_door.proofs.Order.{pushed_first}
 
 pairs_more : (d ds : List Did) → collect drew_pair (collect accept_in (d ++ ds)) ≡ collect drew_pair (collect accept_in d) ++ collect drew_pair (collect accept_in ds)
 pairs_more d ds = ap (collect drew_pair) (collect-append accept_in d ds) ∙ collect-append drew_pair (collect accept_in d) (collect accept_in ds)
@@ -168,6 +169,7 @@ door_shows t s d hand h =
           (each_append (λ (e : ActorId × Message). MayPush t Door e.0 e.1) h.links (says s.given) (each_more (IsLinkTo t) (λ (e : ActorId × Message). MayPush t Door e.0 e.1) h.links (link_may t) h.only) (says_may t s.given));
       fresh = subst (IsPrefix (collect fresh_pair (bare d.pushed))) (ap (collect fresh_pair) (collect-append msg_of h.links (says s.given)) ∙ collect-append fresh_pair (bare h.links) (bare (says s.given)) ∙ ap (λ (xs : List (ℕ × ℕ)). collect fresh_pair (bare h.links) ++ xs) (says_fresh s.given) ∙ append-nil (collect fresh_pair (bare h.links)) ∙ h.drawn)
           (prefix_collect fresh_pair (bare d.pushed) (bare (h.links ++ says s.given)) (prefix_collect msg_of d.pushed (h.links ++ says s.given) (hand, h.split)));
+      order = pushed_first t h.links d.pushed hand s.given h.split h.only;
       stops = λ some. absurd (some h.stops);
       accepted = h.accepted;
       refused = h.refused;

@@ -1,3 +1,4 @@
+pub mod Order
 pub mod Doors
 pub mod Family
 pub mod Resting

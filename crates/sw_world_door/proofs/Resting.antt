@@ -26,7 +26,7 @@ RestDone y s d = ⊥
 pub silent : (t : Terms) (y : ActorId) → Shows t y [] [] (λ n. untold) no_diary
 silent t y =
     record {
-      door = λ e. record { routed = tt; fresh = ([], refl); stops = λ n. absurd (n refl); accepted = (omega arith); refused = (omega arith) };
+      door = λ e. record { routed = tt; order = tt; fresh = ([], refl); stops = λ n. absurd (n refl); accepted = (omega arith); refused = (omega arith) };
       reactor = λ n lt e word. (
         record {
           to_workers = tt;
@@ -36,6 +36,8 @@ silent t y =
           freed_once = tt;
           freed_fresh = tt;
           freed_kept = λ s has. absurd (let q = has.1 in cc);
+          last = λ x. (omega arith);
+          ended = λ k. absurd (k refl);
           ends = (omega arith);
           packets = (omega arith);
           sessions = tt;
@@ -51,6 +53,7 @@ silent t y =
       );
       hand = λ k. record {
         law = record { routed = tt; told = ([], refl); dialogue = tt; fits = tt; talk = λ s. ([], refl) };
+        ended = λ k. absurd (k refl);
         asks = tt;
         grants = tt;
         refusals = tt;

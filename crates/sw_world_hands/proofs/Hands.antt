@@ -1,7 +1,7 @@
 -- Each turn of a hand keeps its law, whatever the pipe then answers.
 use Rattle.std.proofs.Common.{◌≡◌, ◌⊎◌, ℕ, ◌+◌, List, [], ◌∷◌, ◌++◌, refl, ap, ◌∙◌, sym, subst, arith, inl, inr}
 use Rattle.std.proofs.lemmas.Bool.{cases_lt}
-use Rattle.sw_lists.specs.Lists.{Has}
+use Rattle.sw_lists.specs.Lists.{collect, Has}
 use Rattle.sw_step.specs.declared.actor.ActorId.{ActorId}
 use Rattle.sw_step.specs.declared.actor.ActorId.TheVariants.{Door, Reactor, Worker, Tasker}
 use Rattle.sw_record.specs.Words.{Event, Send, Close, Reset, Bind, Exist, Info, TaskAct, FinishAct, Table, Stats, Shutdown, Done, Dst, Answer}
@@ -9,10 +9,11 @@ use Rattle.sw_record.specs.Terms.{Terms}
 use Rattle.sw_past.specs.Messages.{Message, NoMore}
 use Rattle.sw_past.specs.Past.{Mail, bare}
 use Rattle.sw_past.specs.Routes.{IsHand}
+use Rattle.sw_past.specs.Views.{no_more}
 use Rattle.sw_world_ports.specs.Calls.{Did}
 use Rattle.sw_world_ports.proofs.Haves.{has_left, has_right, has_split, has_one}
 use Rattle.sw_world_laws.specs.Turns.{Ask, AskTake, AskPush, AskNothing, AskRest, AskFinished, Got, GotStart, GotTook, GotEmpty, GotPushed, GotFull, GotNothing, Diary, with_dids, HasPipe, After}
-use Rattle.sw_world_laws.specs.Shows.{Shows}
+use Rattle.sw_world_laws.specs.Shows.{EndsCame, Shows}
 use Rattle.sw_world_laws.specs.Done.{DoneShows}
 use Rattle.sw_world_laws.specs.Account.{untold}
 use Rattle.sw_hand_laws.specs.Hand.{Got as HandGot, Took, Pushed, Full, Ask as HandAsk, Take, Push, Rest, AskNothing as NothingAsked, AskFinished as FinishedAsked, Ports, Stage, Idle, Acting, Sending, Leaving, Stopping, Stopped, Hand, goodbye, turn}
@@ -30,6 +31,7 @@ use Rattle.sw_world_hands.specs.Hands.{HandState, hand_got, world_ask, turned, d
 use Rattle.sw_world_hands.proofs.Adding.{FullNow, turn_adds}
 use Rattle.sw_world_hands.proofs.Calls.{more_calls}
 use Rattle.sw_world_hands.proofs.Mail.{turn_mail}
+use Rattle.sw_world_hands.proofs.Ended.{came_as, hand_ended, hand_still}
 use Rattle.sw_world_hands.proofs.Showing.{shown_as, finished_as, shows_hand, hand_done}
 
 -- who has a pipe is there
@@ -230,11 +232,15 @@ hand_keeps t limit left y s got dids u ask d turn l =
 pub law_shown : (t : Terms) (limit left : ℕ) (y : ActorId) (s : HandState) (got : Got) (d : Diary) → HandHolds t limit left y s got d → Shown t y d.took d.pushed s.hand.log
 law_shown t limit left y s got d l = shown_as t y (taken (hand_got got) s.hand.took) d.took (sent t s.stage (hand_got got) s.hand.pushed) d.pushed s.hand.log l.took l.pushed (shows t y s.stage s.hand (hand_got got) l.is l.fits l.kept l.fitting.fits)
 
+-- it pushed no NoMore before those of all came
+law_ended : (t : Terms) (limit left : ℕ) (y : ActorId) (s : HandState) (got : Got) (d : Diary) → HandHolds t limit left y s got d → ¬ (collect no_more (bare d.pushed) ≡ []) → EndsCame t y d.took
+law_ended t limit left y s got d l some = came_as t y (taken (hand_got got) s.hand.took) d.took l.took (hand_ended t y s.stage s.hand (hand_got got) l.fits l.kept (subst (λ (ms : Mail). ¬ (collect no_more (bare ms) ≡ [])) (sym l.pushed) some))
+
 pub law_shows : (t : Terms) (limit left : ℕ) (y : ActorId) (s : HandState) (got : Got) (d : Diary) → HandHolds t limit left y s got d → Shows t y s.hand.log [] (λ n. untold) d
-law_shows t limit left y s got d l = shows_hand t y s.stage s.hand d l.is (law_shown t limit left y s got d l) l.kept.showing l.calls l.fulls
+law_shows t limit left y s got d l = shows_hand t y s.stage s.hand d l.is (law_shown t limit left y s got d l) l.kept.showing l.calls l.fulls (law_ended t limit left y s got d l)
 
 pub over_shows : (t : Terms) (limit left : ℕ) (y : ActorId) (s : HandState) (d : Diary) → HandOver t limit left y s d → Shows t y s.hand.log [] (λ n. untold) d
-over_shows t limit left y s d l = shows_hand t y s.stage s.hand d l.is (shown_as t y s.hand.took d.took s.hand.pushed d.pushed s.hand.log l.took l.pushed (shown_still t y s.stage s.hand l.kept l.fitting.fits)) l.kept.showing l.calls l.fulls
+over_shows t limit left y s d l = shows_hand t y s.stage s.hand d l.is (shown_as t y s.hand.took d.took s.hand.pushed d.pushed s.hand.log l.took l.pushed (shown_still t y s.stage s.hand l.kept l.fitting.fits)) l.kept.showing l.calls l.fulls (λ some. came_as t y s.hand.took d.took l.took (hand_still t y s.stage s.hand l.kept (subst (λ (ms : Mail). ¬ (collect no_more (bare ms) ≡ [])) (sym l.pushed) some)))
 
 -- who is there or not
 pipe_or_not : (t : Terms) (to : ActorId) → HasPipe t to ⊎ (HasPipe t to → ⊥)
@@ -252,7 +258,7 @@ not_here t to m ms not (n, (lt, (x, h))) = elim (has_split (Tasker n, x) ms ((to
 
 -- with a push on its way, from both that it may be answered
 asked_shows : (t : Terms) (limit left : ℕ) (y : ActorId) (s : HandState) (to : ActorId) (m : Message) (d : Diary) → (HasPipe t to → HandHolds t limit left y s GotPushed (record d { pushed = d.pushed ++ (to, m) ∷ [] })) → HandHolds t limit left y s (GotFull m) (record d { refused = d.refused ++ (to, m) ∷ [] }) → Shows t y s.hand.log [] (λ n. untold) d
-asked_shows t limit left y s to m d p l = shows_hand t y s.stage s.hand d l.is (law_shown t limit left y s (GotFull m) (record d { refused = d.refused ++ (to, m) ∷ [] }) l) l.kept.showing l.calls (λ n. elim (pipe_or_not t to) [ inl has ↦ (p has).fulls n | inr not ↦ not_here t to m d.refused not (l.fulls n) ])
+asked_shows t limit left y s to m d p l = shows_hand t y s.stage s.hand d l.is (law_shown t limit left y s (GotFull m) (record d { refused = d.refused ++ (to, m) ∷ [] }) l) l.kept.showing l.calls (λ n. elim (pipe_or_not t to) [ inl has ↦ (p has).fulls n | inr not ↦ not_here t to m d.refused not (l.fulls n) ]) (law_ended t limit left y s (GotFull m) (record d { refused = d.refused ++ (to, m) ∷ [] }) l)
 
 pub after_shows : (t : Terms) (limit left : ℕ) (y : ActorId) (s : HandState) (ask : Ask) (d : Diary) → After t (HandHolds t limit left y) (HandOver t limit left y) s ask d → Shows t y s.hand.log [] (λ n. untold) d
 after_shows t limit left y s AskTake d h = law_shows t limit left y s GotEmpty d h.0

@@ -1,3 +1,4 @@
+pub mod Ended
 pub mod Adding
 pub mod Calls
 pub mod Mail

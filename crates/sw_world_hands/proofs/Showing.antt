@@ -21,7 +21,7 @@ use Rattle.sw_past.specs.Routes.{IsHand, IsRouted, MayPush}
 use Rattle.sw_join.proofs.Routes.{is_same}
 use Rattle.sw_world_ports.specs.Made.{other_in, had_in, found_in, spent_in, sum_in}
 use Rattle.sw_world_laws.specs.Turns.{Diary}
-use Rattle.sw_world_laws.specs.Shows.{HandShows, Shows}
+use Rattle.sw_world_laws.specs.Shows.{EndsCame, HandShows, Shows}
 use Rattle.sw_world_laws.specs.Done.{DoneShows}
 use Rattle.sw_world_laws.specs.Account.{untold}
 use Rattle.sw_world_laws.proofs.Locals.{no_hand_door, no_hand_reactor}
@@ -93,9 +93,10 @@ has_room t y pushed log n (inr (k, (lt, q))) r h = omega (arith, ap length (no_t
 all_shown : {A : Type 0} (xs shown told : List A) → xs ≡ shown → told ≡ shown → Each (λ x. Has x xs) told
 all_shown xs shown told q r = subst (λ ys. Each (λ x. Has x xs) ys) (q ∙ sym r) (each_at (λ x. Has x xs) xs (λ x h. h))
 
-pub hand_shows : (t : Terms) (y : ActorId) (st : Stage) (h : Hand) (d : Diary) → IsHand t y → Shown t y d.took d.pushed h.log → Showing t st h → CallsShow h.seen h.log d.dids → (¬ (h.seen.fulls ≡ []) → HadNoRoom t d.refused) → HandShows t y h.log d
-hand_shows t y st h d hand s g c f = record {
+pub hand_shows : (t : Terms) (y : ActorId) (st : Stage) (h : Hand) (d : Diary) → IsHand t y → Shown t y d.took d.pushed h.log → Showing t st h → CallsShow h.seen h.log d.dids → (¬ (h.seen.fulls ≡ []) → HadNoRoom t d.refused) → (¬ (collect no_more (bare d.pushed) ≡ []) → EndsCame t y d.took) → HandShows t y h.log d
+hand_shows t y st h d hand s g c f ended = record {
   law = s.hand;
+  ended = ended;
   asks = s.asks;
   grants = subst (λ xs. Each (λ n. Has n xs ⊎ (¬ (told_of n h.log ≡ []))) (collect granted (answers_of h.log))) (sym c.lives) g.grants;
   refusals = all_shown (collect other_in d.dids) h.seen.others (collect refused (answers_of h.log)) c.others g.others;
@@ -117,11 +118,11 @@ hand_shows t y st h d hand s g c f = record {
 }
 
 -- all that it shows
-pub shows_hand : (t : Terms) (y : ActorId) (st : Stage) (h : Hand) (d : Diary) → IsHand t y → Shown t y d.took d.pushed h.log → Showing t st h → CallsShow h.seen h.log d.dids → (¬ (h.seen.fulls ≡ []) → HadNoRoom t d.refused) → Shows t y h.log [] (λ n. untold) d
-shows_hand t y st h d hand s g c f = record {
+pub shows_hand : (t : Terms) (y : ActorId) (st : Stage) (h : Hand) (d : Diary) → IsHand t y → Shown t y d.took d.pushed h.log → Showing t st h → CallsShow h.seen h.log d.dids → (¬ (h.seen.fulls ≡ []) → HadNoRoom t d.refused) → (¬ (collect no_more (bare d.pushed) ≡ []) → EndsCame t y d.took) → Shows t y h.log [] (λ n. untold) d
+shows_hand t y st h d hand s g c f ended = record {
   door = λ e. absurd (no_hand_door t (subst (IsHand t) e hand));
   reactor = λ n lt e. absurd (no_hand_reactor t n (subst (IsHand t) e hand));
-  hand = λ i. hand_shows t y st h d hand s g c f;
+  hand = λ i. hand_shows t y st h d hand s g c f ended;
   worker = λ w lt e. s.post w e;
   tasker = λ k lt e. s.finish;
 }

@@ -4,6 +4,7 @@ pub mod Marks
 pub mod Words
 pub mod Turns
 pub mod Standing
+pub mod Firsts
 pub mod Moves
 pub mod Reached
 pub mod Joined

@@ -27,6 +27,7 @@ use Rattle.sw_world_laws.specs.World.{Gave, Core, there, took_of, left_of, has_r
 use Rattle.sw_world_laws.specs.History.{History, diary_of, past_of, LocalBy}
 use Rattle.sw_world_laws.specs.Law.{Lies, NotesLaw, Holds, Law, IsSound}
 use Rattle.sw_world_laws.proofs.Locals.{locals, joint, fair_sent, lt_test}
+use Rattle.sw_world_laws.proofs.Firsts.{doors_push, doors_take, links_take}
 use Rattle.sw_world_laws.proofs.Marks.{task_marks_take, finish_marks_take}
 
 -- a link that comes now did not come before
@@ -95,6 +96,8 @@ took_keeps t legal p c h l was y th q [] split [] inside = (
     finish_marks = l.finish_marks;
     ports = l.ports;
     full = l.full;
+    doors_first = l.doors_first;
+    links_first = l.links_first;
   },
 )
 took_keeps t legal p c h l was y th q [] split (m ∷ ms) inside = absurd (cc)
@@ -117,6 +120,8 @@ took_keeps t legal p c h l was y th q ((who, n) ∷ rest) split (m ∷ ms) insid
         finish_marks = finish_marks_take t legal p c h l was y e;
         ports = l.ports;
         full = l.full;
+        doors_first = doors_take t h.took h.sent l.doors_first y e;
+        links_first = links_take t legal p c h l y e rest split;
       },
     )
 
@@ -161,8 +166,8 @@ longer f x e z k h = pick (is z x)
     pick true = (let a : length (f z ++ e ∷ []) ≡ length (f z) + 1 = length_append (f z) (e ∷ []) in omega arith)
     pick false = h
 
-pub pushed_keeps : (t : Terms) (legal : List Ran → Type 0) (p : Actors t) (c : Core p.State) (h : History) → Holds t legal p c h → (y x : ActorId) (m : Message) → there t y ≡ true → After t (p.Quiet y) (p.Done y) (c.states y) (AskPush x m) (diary_of h y) → (b : Bool) → has_room t x (c.pipes x) ≡ b → Law t legal p (pushed_by c y x m b)
-pushed_keeps t legal p c h l y x m th q true room =
+pub pushed_keeps : (t : Terms) (legal : List Ran → Type 0) (p : Actors t) (c : Core p.State) (h : History) → Holds t legal p c h → c.lost ≡ false → (y x : ActorId) (m : Message) → there t y ≡ true → After t (p.Quiet y) (p.Done y) (c.states y) (AskPush x m) (diary_of h y) → (b : Bool) → has_room t x (c.pipes x) ≡ b → Law t legal p (pushed_by c y x m b)
+pushed_keeps t legal p c h l was y x m th q true room =
     let e : ActorId × Message = (x, m) in
     let f : ActorId × Message = (y, m) in
     let k : Lies (h.took x) (h.sent x) (c.pipes x) = l.lies x in (
@@ -184,9 +189,11 @@ pushed_keeps t legal p c h l y x m th q true room =
         finish_marks = l.finish_marks;
         ports = l.ports;
         full = λ z n v lt has. longer h.sent x f (Tasker n) t.pipe_capacity (l.full z n v lt has);
+        doors_first = doors_push t legal p c h l was y x m th (p.shows y (c.states y) GotPushed (record { took = h.took y; pushed = h.pushed y ++ (x, m) ∷ []; refused = h.refused y; dids = h.dids y }) (q.0 (room_pipe t x (c.pipes x) room)));
+        links_first = l.links_first;
       },
     )
-pushed_keeps t legal p c h l y x m th q false room =
+pushed_keeps t legal p c h l was y x m th q false room =
     let e : ActorId × Message = (x, m) in
     let k : Lies (h.took x) (h.sent x) (c.pipes x) = l.lies x in (
       record h { refused = put h.refused y e },
@@ -211,5 +218,7 @@ pushed_keeps t legal p c h l y x m th q false room =
                   subst (λ (w : ActorId). t.pipe_capacity ≤ length (h.sent w)) i (omega arith))
             ])
             (λ w has. l.full w n v lt has) z;
+        doors_first = l.doors_first;
+        links_first = l.links_first;
       },
     )

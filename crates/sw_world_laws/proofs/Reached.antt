@@ -16,7 +16,7 @@ use Rattle.sw_world_laws.proofs.Turns.{turned_keeps}
 goes_keeps : (t : Terms) (legal : List Ran → Type 0) (p : Actors t) (c : Core p.State) (h : History) → Holds t legal p c h → c.lost ≡ false → (y : ActorId) → there t y ≡ true → (o : Outcome p.State) (n : Pending) → LocalBy t p y (c.states y) n (diary_of h y) → MayGo t legal p c y o n → Law t legal p (goes t p c y o n)
 goes_keeps t legal p c h l was y th o (Gave got) q may = turned_keeps t legal p c h l was y th o got may q
 goes_keeps t legal p c h l was y th o (Waits AskTake) q may = taken_keeps t legal p c h l was y th q
-goes_keeps t legal p c h l was y th o (Waits (AskPush x m)) q may = pushed_keeps t legal p c h l y x m th q (has_room t x (c.pipes x)) refl
+goes_keeps t legal p c h l was y th o (Waits (AskPush x m)) q may = pushed_keeps t legal p c h l was y x m th q (has_room t x (c.pipes x)) refl
 goes_keeps t legal p c h l was y th o (Waits AskNothing) q may = turned_keeps t legal p c h l was y th o GotNothing may q
 goes_keeps t legal p c h l was y th o (Waits AskRest) q may = turned_keeps t legal p c h l was y th o GotNothing may q
 goes_keeps t legal p c h l was y th o (Waits AskFinished) q may = (h, l)
@@ -42,6 +42,8 @@ found_keeps t legal p c (Arrive ip) was may (h, l) = (
     finish_marks = l.finish_marks;
     ports = record { given = l.ports.given; words = l.ports.words; stop = l.ports.stop; counts = l.ports.counts; shelf = l.ports.shelf };
     full = l.full;
+    doors_first = l.doors_first;
+    links_first = l.links_first;
   },
 )
 found_keeps t legal p c (Script link item) was may (h, l) = (
@@ -58,6 +60,8 @@ found_keeps t legal p c (Script link item) was may (h, l) = (
     finish_marks = l.finish_marks;
     ports = l.ports;
     full = l.full;
+    doors_first = l.doors_first;
+    links_first = l.links_first;
   },
 )
 found_keeps t legal p c NetEnd was may (h, l) = (
@@ -74,6 +78,8 @@ found_keeps t legal p c NetEnd was may (h, l) = (
     finish_marks = l.finish_marks;
     ports = record { given = l.ports.given; words = l.ports.words; stop = l.ports.stop; counts = l.ports.counts; shelf = l.ports.shelf };
     full = l.full;
+    doors_first = l.doors_first;
+    links_first = l.links_first;
   },
 )
 found_keeps t legal p c Wants was may (h, l) = (
@@ -90,6 +96,8 @@ found_keeps t legal p c Wants was may (h, l) = (
     finish_marks = l.finish_marks;
     ports = l.ports;
     full = l.full;
+    doors_first = l.doors_first;
+    links_first = l.links_first;
   },
 )
 
@@ -141,6 +149,8 @@ start_keeps t legal p all lt ok = (
       shelf = record { is_legal = ok; each = λ y. tt; rise = λ y. tt; once = λ y z n. tt; all = λ n less. absurd (omega arith); none_left = λ y. tt };
     };
     full = λ y n m less i. absurd (let q = i.1 in cc);
+    doors_first = λ some n less y ne gave. absurd (gave refl);
+    links_first = λ some n less. tt;
   },
 )
 

@@ -59,7 +59,7 @@ end_laws t legal p c h some worker l ok d =
       some_reactor = some;
       some_worker = worker;
       finished = finished;
-      rounds = round_laws t legal p c h some l (drained t (AimOf t) (EndOf t) (past_of t p c h) (account_by t p c h) some (locals t legal p c h l) (joint t legal p c h l) (is_shown t legal p c h some l) (task_locals t legal p c h l ok) finished) d;
+      rounds = round_laws t legal p c h some worker l (drained t (AimOf t) (EndOf t) (past_of t p c h) (account_by t p c h) some (locals t legal p c h l) (joint t legal p c h l) (is_shown t legal p c h some l) (task_locals t legal p c h l ok) finished) d;
     }
 
 -- the settings of a world: a mode there is, and a reactor and a worker at least

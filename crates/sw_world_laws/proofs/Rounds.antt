@@ -44,11 +44,11 @@ none_new t n ls kept (k ∷ new) over are q =
     let e = over are.0.0 k (record { at = has.0; there = has.1; session = are.0.1.0 }) in
     absurd (are.0.1.1 e.0 e.1.0)
 
-pub round_laws : (t : Terms) (legal : List Ran → Type 0) (p : Actors t) (c : Core p.State) (h : History) (some : 1 ≤ t.reactor_num) (l : Holds t legal p c h) → AllSettled t (account_by t p c h) → AllDone t p c → t.mode ≡ 1 → RoundLaws t (past_of t p c h) (account_by t p c h)
-round_laws t legal p c h some l settled d m =
+pub round_laws : (t : Terms) (legal : List Ran → Type 0) (p : Actors t) (c : Core p.State) (h : History) (some : 1 ≤ t.reactor_num) (busy : 1 ≤ t.worker_num) (l : Holds t legal p c h) → AllSettled t (account_by t p c h) → AllDone t p c → t.mode ≡ 1 → RoundLaws t (past_of t p c h) (account_by t p c h)
+round_laws t legal p c h some busy l settled d m =
     record {
       shares = λ n lt. (let q = shares_of t legal p c h some l n lt in none_new t n (account_by t p c h).links (p.kept (c.states (Reactor n))) q.0 settled.over q.1.0 q.1.1);
       round = λ n lt. ((done_of t legal p c h l d (Reactor n) (lt_test n t.reactor_num lt)).round m).round n lt refl (words_found t legal p c h l n lt) (fair_took t legal p c h l n);
-      reactor_last = λ n j lt. ((done_of t legal p c h l d (Reactor n) (lt_test n t.reactor_num lt)).round m).last n j lt refl (words_found t legal p c h l n lt);
+      reactor_last = λ n j lt. ((done_of t legal p c h l d (Reactor n) (lt_test n t.reactor_num lt)).round m).last n j lt refl (words_found t legal p c h l n lt) (l.links_first busy n lt);
       worker_all = λ j lt. ((done_of t legal p c h l d (Worker j) (lt_test j t.worker_num lt)).round m).all j lt refl;
     }

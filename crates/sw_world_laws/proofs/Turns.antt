@@ -160,6 +160,8 @@ turn_keeps t legal p c h l was y th dids u n lost feed local sound may answers g
     finish_marks = finish_marks_turn t legal p c h l was y u (length (all_ported t c.ports y dids).table) (table_grows t y c.ports dids) grows tells;
     ports = calls_keep t legal c.ports h.dids l.ports y dids may answers (may_free t legal p c h l y dids (p.kept u) (p.told u) may frees);
     full = l.full;
+    doors_first = l.doors_first;
+    links_first = l.links_first;
   },
 )
 

@@ -18,7 +18,7 @@ use Rattle.sw_past.specs.Routes.{IsHand, IsFair}
 use Rattle.sw_join.specs.Drained.{LastMarked}
 use Rattle.sw_world_ports.specs.Made.{accept_in}
 use Rattle.sw_world_laws.specs.Turns.{Diary}
-use Rattle.sw_world_laws.specs.Shows.{fresh_pair, drew_pair, HasWord}
+use Rattle.sw_world_laws.specs.Shows.{fresh_pair, drew_pair, HasWord, ComeFirst}
 
 -- the door pushed all that it drew, and told each reactor at last that no more comes
 pub record DoorDone (t : Terms) (d : Diary) : Type 0 where
@@ -53,7 +53,7 @@ pub record TaskerDone (t : Terms) (log : Log) (d : Diary) : Type 0 where
 -- that no more comes; a worker was told so by all reactors
 pub record RoundShows (t : Terms) (y : ActorId) (kept : List LinkRecord) (d : Diary) : Type 0 where
   pub round : (n : ℕ) → n < t.reactor_num → y ≡ Reactor n → HasWord d.dids → IsFair t n d.took → ((s : ℕ) (l : LinkRecord) → Has l kept → session_of l.state ≡ Some s → (e : Ended) × ((l.state ≡ Over e) × IsAllCut e.cause)) → (j : ℕ) → j < t.worker_num → length (collect packet_msg (of (Worker j) d.pushed)) ≡ rounds t.worker_num (total kept) j
-  pub last : (n j : ℕ) → n < t.reactor_num → y ≡ Reactor n → HasWord d.dids → LastMarked no_more (of (Worker j) d.pushed)
+  pub last : (n j : ℕ) → n < t.reactor_num → y ≡ Reactor n → HasWord d.dids → ComeFirst (bare d.took) → LastMarked no_more (of (Worker j) d.pushed)
   pub all : (j : ℕ) → j < t.worker_num → y ≡ Worker j → t.reactor_num ≤ length (collect no_more (bare d.took))
 
 -- what the law of a finished actor shows

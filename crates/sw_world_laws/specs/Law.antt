@@ -9,7 +9,8 @@ use Rattle.sw_record.specs.Own.{StandsEarly}
 use Rattle.sw_record.specs.Places.{Ran}
 use Rattle.sw_past.specs.Messages.{Message, FreshMsg}
 use Rattle.sw_past.specs.Past.{Mail, bare, of}
-use Rattle.sw_past.specs.Views.{sends_in}
+use Rattle.sw_past.specs.Views.{sends_in, no_more}
+use Rattle.sw_world_laws.specs.Shows.{ComeFirst}
 use Rattle.sw_past.specs.Routes.{IsHand}
 use Rattle.sw_join.specs.Steps.{IsPiped}
 use Rattle.sw_world_ports.specs.Calls.{MayDo}
@@ -39,6 +40,10 @@ IsSound (Waits ask) = Unit {0}
 IsSound (Gave got) = Unit {0}
 IsSound Lost = ⊥
 
+-- where there are workers, a NoMore of a hand comes to a reactor once it took the door's
+abbrev pub DoorsFirst : Terms → (ActorId → Mail) → (ActorId → Mail) → Type 0
+DoorsFirst t took sent = 0 < t.worker_num → (n : ℕ) → n < t.reactor_num → (y : ActorId) → ¬ (y ≡ Door) → ¬ (collect no_more (of y (sent (Reactor n))) ≡ []) → ¬ (collect no_more (of Door (took (Reactor n))) ≡ [])
+
 -- THE LAW: each actor's own, the pipes', the notes and marks, the session words', the board's and the Table's
 pub record Holds (t : Terms) (legal : List Ran → Type 0) (p : Actors t) (c : Core p.State) (h : History) : Type 0 where
   pub local : (y : ActorId) → there t y ≡ true → LocalBy t p y (c.states y) (c.nexts y) (diary_of h y)
@@ -52,6 +57,8 @@ pub record Holds (t : Terms) (legal : List Ran → Type 0) (p : Actors t) (c : C
   pub finish_marks : FinishMarks t (length c.ports.table) h.took (λ y. p.log (c.states y))
   pub ports : PortsLaw t legal c.ports h.dids
   pub full : FullLaw t h.refused h.sent
+  pub doors_first : DoorsFirst t h.took h.sent
+  pub links_first : 0 < t.worker_num → (n : ℕ) → n < t.reactor_num → ComeFirst (bare (h.took (Reactor n)))
 
 -- with some history
 abbrev pub Law : (t : Terms) → (List Ran → Type 0) → (p : Actors t) → Core p.State → Type 0

@@ -19,8 +19,8 @@ use Rattle.sw_record.specs.Uids.{binds, bound_in, info_in}
 use Rattle.sw_record.specs.Whole.{IsOwnEnd}
 use Rattle.sw_past.specs.Claims.{Claim, Drew, Full, Spent, drew_in}
 use Rattle.sw_past.specs.Messages.{Message, FreshMsg}
-use Rattle.sw_past.specs.Past.{bare, of}
-use Rattle.sw_past.specs.Views.{fresh_in, close_of, reset_of}
+use Rattle.sw_past.specs.Past.{Mail, bare, of}
+use Rattle.sw_past.specs.Views.{fresh_in, close_of, reset_of, no_more}
 use Rattle.sw_past.specs.Routes.{IsHand, IsRouted, IsFair}
 use Rattle.sw_join.specs.Laws.{ReactorLaw, HandLaw}
 use Rattle.sw_join.specs.Modes.{AimOf, EndOf}
@@ -45,9 +45,22 @@ pair_by ip Spent = []
 abbrev pub drew_pair : ℕ × Claim → List (ℕ × ℕ)
 drew_pair x = pair_by x.0 x.1
 
+-- no link comes behind a NoMore
+abbrev pub ComeFirst : List Message → Type 0
+ComeFirst [] = Unit {0}
+ComeFirst (m ∷ ms) = (¬ (no_more m ≡ []) → collect fresh_in ms ≡ []) × ComeFirst ms
+
+-- NoMore of all that push to a hand came
+abbrev pub EndsCame : Terms → ActorId → Mail → Type 0
+EndsCame t (Worker w) took = t.reactor_num ≤ length (collect no_more (bare took))
+EndsCame t (Tasker k) took = t.worker_num ≤ length (collect no_more (bare took))
+EndsCame t (Reactor n) took = Unit {0}
+EndsCame t Door took = Unit {0}
+
 -- what the door's law shows
 pub record DoorShows (t : Terms) (d : Diary) : Type 0 where
   pub routed : IsRouted t Door d.pushed
+  pub order : ComeFirst (bare d.pushed)
   pub fresh : IsPrefix (collect fresh_pair (bare d.pushed)) (collect drew_pair (collect accept_in d.dids))
   pub stops : ¬ (collect stop_in d.dids ≡ []) → t.listen_fault ≡ true
   -- what it counted: the links that it accepted, and those without a session
@@ -79,6 +92,9 @@ pub record ReactorMore (t : Terms) (kept : List LinkRecord) (told : ℕ → Tell
   pub freed_once : Distinct (firsts (collect free_in d.dids))
   pub freed_fresh : Each (λ s. Has s (collect fresh_in (bare d.took))) (firsts (collect free_in d.dids))
   pub freed_kept : (s : ℕ) → Has s (firsts (collect free_in d.dids)) → ((l : LinkRecord) × (Has l kept × (session_of l.state ≡ Some s))) × ((l : LinkRecord) → Has l kept → session_of l.state ≡ Some s → (e : Ended) × (l.state ≡ Over e))
+  -- it pushes one NoMore to each at most, and none before one came
+  pub last : (x : ActorId) → length (collect no_more (of x d.pushed)) ≤ 1
+  pub ended : ¬ (collect no_more (bare d.pushed) ≡ []) → ¬ (collect no_more (bare d.took) ≡ [])
   -- it counts an end as it releases, and a packet as it notes its push
   pub ends : length (collect (add_in EndedCount) d.dids) ≤ length (collect free_in d.dids)
   pub packets : length (collect (add_in PacketsCount) d.dids) ≤ total kept
@@ -98,6 +114,8 @@ pub record ReactorMore (t : Terms) (kept : List LinkRecord) (told : ℕ → Tell
 -- what a hand's law shows
 pub record HandShows (t : Terms) (y : ActorId) (log : Log) (d : Diary) : Type 0 where
   pub law : HandLaw t y d.took d.pushed log
+  -- it pushes NoMore once that of all came
+  pub ended : ¬ (collect no_more (bare d.pushed) ≡ []) → EndsCame t y d.took
   -- what it asks of reactors is in its log, and what it was answered of sessions its calls found
   pub asks : Each (λ (e : ActorId × Message). AskLaw log e.1) d.pushed
   pub grants : Each (λ s. Has s (collect live_in d.dids) ⊎ (¬ (told_of s log ≡ []))) (collect granted (answers_of log))

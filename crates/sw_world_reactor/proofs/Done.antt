@@ -1,19 +1,15 @@
 -- What a finished reactor shows.
-use Rattle.std.proofs.Common.{◌≡◌, ℕ, ◌<◌, ◌≤◌, Bool, true, false, List, [], ◌∷◌, ◌++◌, length, refl, ap, ◌∙◌, sym, subst, arith, Some}
-use Rattle.sw_lists.specs.Lists.{collect, when, Each, Has}
+use Rattle.std.proofs.Common.{◌≡◌, ℕ, ◌<◌, true, false, [], ◌∙◌, sym, subst, Some}
+use Rattle.sw_lists.specs.Lists.{Each, Has}
 use Rattle.sw_lists.proofs.Lists.{each_at}
 use Rattle.sw_frame.specs.Cut.{IsFit}
 use Rattle.sw_step.specs.declared.actor.ActorId.{ActorId}
 use Rattle.sw_step.specs.declared.actor.ActorId.TheVariants.{Door, Reactor, Worker, Tasker}
-use Rattle.sw_step.specs.Actors.{is}
 use Rattle.sw_record.specs.declared.record.LinkRecord.{LinkRecord}
 use Rattle.sw_record.specs.declared.record.LinkState.TheVariants.{Over}
 use Rattle.sw_record.specs.Words.{Stop, Ended}
 use Rattle.sw_record.specs.Terms.{Terms, session_of}
 use Rattle.sw_record.specs.Whole.{IsAllCut}
-use Rattle.sw_past.specs.Messages.{Message}
-use Rattle.sw_past.specs.Past.{Mail, of}
-use Rattle.sw_past.specs.Views.{no_more}
 use Rattle.sw_past.specs.Routes.{IsHand, IsFair}
 use Rattle.sw_world_ports.proofs.Haves.{each_has}
 use Rattle.sw_world_laws.specs.Turns.{Diary}
@@ -24,25 +20,8 @@ use Rattle.sw_reactor_table.specs.Reactor.{Reactor as Table, kept}
 use Rattle.sw_reactor_laws.specs.Shows.{IsEnd, EndsAllCut, ReactorMore as TableMore, ReactorDone as TableDone}
 use Rattle.sw_reactor_laws.proofs.Shows.{reactor_more, reactor_done}
 use Rattle.sw_reactor_laws.proofs.Last.{finished_last}
-use Rattle.sw_reactor_laws.proofs.Ending.{once_now}
-use Rattle.sw_world_reactor.specs.Reactors.{AllTold, RunWith, GoesToWorker, Ran, RDone}
-
--- it pushes to workers alone
-none_to : (x : ActorId) → ((w : ℕ) → is (Worker w) x ≡ false) → (ms : Mail) → Each GoesToWorker ms → of x ms ≡ []
-none_to x f [] h = refl
-none_to x f (e ∷ ms) h =
-    ap (λ (a : ActorId). when (is a x) e.1 ++ of x ms) h.0.1
-    ∙ ap (λ (b : Bool). when b e.1 ++ of x ms) (f h.0.0)
-    ∙ none_to x f ms h.1
-
-none_once : (x : ActorId) → ((w : ℕ) → is (Worker w) x ≡ false) → (ms : Mail) → Each GoesToWorker ms → length (collect no_more (of x ms)) ≤ 1
-none_once x f ms h = subst (λ (zs : List Message). length (collect no_more zs) ≤ 1) (sym (none_to x f ms h)) (omega arith)
-
-once_to : (t : Terms) (s : Table) (d : Diary) → Ran t d.took d.pushed s d.dids → (x : ActorId) → length (collect no_more (of x d.pushed)) ≤ 1
-once_to t s d r Door = none_once Door (λ w. refl) d.pushed r.only
-once_to t s d r (Reactor n) = none_once (Reactor n) (λ w. refl) d.pushed r.only
-once_to t s d r (Worker j) = once_now t d.took d.pushed s r.counts j
-once_to t s d r (Tasker k) = none_once (Tasker k) (λ w. refl) d.pushed r.only
+use Rattle.sw_world_reactor.specs.Reactors.{AllTold, RunWith, RDone}
+use Rattle.sw_world_reactor.proofs.Once.{once_to, links_first}
 
 told_of : (d : Diary) (h : HasWord d.dids) → AllTold h.word d.dids
 told_of d h = record { found = h.found; freed = h.freed }
@@ -50,7 +29,7 @@ told_of d h = record { found = h.found; freed = h.freed }
 pub reactor_is_done : (t : Terms) → 0 < t.worker_num → IsFit t.framing → t.start_fault ≡ false → (y : ActorId) (s : Table) (d : Diary) → RDone t y s d → DoneShows t y [] (kept t s) d
 reactor_is_done t some fit calm y s d (i, (e, r)) =
     record {
-      once = once_to t s d r;
+      once = once_to t s d.took d.pushed r.counts r.only;
       door = λ q. absurd (let z : Door ≡ Reactor i.0 = sym q ∙ i.1.1 in cc);
       reactor = λ n lt q word fair. done n lt word fair;
       hand = λ k. absurd (no_hand_reactor t i.0 (subst (IsHand t) i.1.1 k));
@@ -58,7 +37,7 @@ reactor_is_done t some fit calm y s d (i, (e, r)) =
       tasker = λ v lt q. absurd (let z : Tasker v ≡ Reactor i.0 = sym q ∙ i.1.1 in cc);
       round = λ m. record {
         round = λ n lt q word fair cut j less. (table n lt word fair).round m (all_cut n lt word fair cut) j less;
-        last = λ n j lt q word. finished_last t word.word some d.took d.pushed s (with_word word).run r.first e j;
+        last = λ n j lt q word first. finished_last t word.word some d.took d.pushed s (with_word word).run (links_first d.took first) e j;
         all = λ j lt q. absurd (let z : Worker j ≡ Reactor i.0 = sym q ∙ i.1.1 in cc);
       };
     }

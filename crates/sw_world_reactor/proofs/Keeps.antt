@@ -2,16 +2,16 @@
 use Rattle.std.proofs.Common.{◌≡◌, ◌⊎◌, ℕ, ◌+◌, ◌≤◌, nat_lt, Bool, true, false, if◌then◌else◌, List, [], ◌∷◌, ◌++◌, length, refl, ap, ◌∙◌, sym, subst, append-nil, arith, inl, inr}
 use Rattle.std.proofs.lemmas.Bool.Decides.{nat_tests}
 use Rattle.sw_lists.specs.Lists.{collect, Each}
-use Rattle.sw_lists.proofs.Lists.{collect-append, length_append, each_append, each_left, each_right, append_none}
+use Rattle.sw_lists.proofs.Lists.{collect-append, length_append, each_left, each_right, append_none}
 use Rattle.sw_data.specs.declared.messages.Got.{Got as TableGot}
 use Rattle.sw_data.specs.declared.messages.Got.TheVariants as gots
 use Rattle.sw_step.specs.declared.actor.ActorId.{ActorId}
 use Rattle.sw_step.specs.declared.actor.ActorId.TheVariants.{Worker}
 use Rattle.sw_record.specs.Words.{PacketsCount, EndedCount}
 use Rattle.sw_record.specs.Terms.{Terms}
-use Rattle.sw_past.specs.Messages.{Message, FreshMsg, SendMsg, CloseMsg, ResetMsg, Bye, EventMsg, OverMsg, NoMore}
-use Rattle.sw_past.specs.Past.{Mail, bare, msg_of}
-use Rattle.sw_past.specs.Views.{fresh_in, no_more}
+use Rattle.sw_past.specs.Messages.{Message}
+use Rattle.sw_past.specs.Past.{Mail, bare}
+use Rattle.sw_past.specs.Views.{no_more}
 use Rattle.sw_world_ports.specs.Calls.{Did, IsReactor}
 use Rattle.sw_world_ports.specs.Made.{found_in, free_in, saw_stop_in, add_in}
 use Rattle.sw_world_laws.specs.Turns.{Ask, Got, GotStart, GotTook, GotEmpty, GotPushed, GotFull, GotNothing, Diary, no_diary, with_dids, After}
@@ -19,14 +19,15 @@ use Rattle.sw_world_laws.specs.Actors.{Feed}
 use Rattle.sw_reactor_table.specs.Conn.{Answers}
 use Rattle.sw_reactor_table.specs.Reactor.{Reactor as Table, Ask as TableAsk, Take, Push, Nothing, Rest, Finished, settled, turn, started}
 use Rattle.sw_reactor_table.specs.Runs.{Called, TookOne, FoundNone, PushedOne, CameBack, NoCall, Runs, First, Then, IsFaithful}
-use Rattle.sw_reactor_laws.specs.Ending.{Counts, Chose, LinksFirst}
+use Rattle.sw_reactor_laws.specs.Ending.{Counts, Chose}
 use Rattle.sw_reactor_laws.specs.Histories.{counts_in, counted_in, frees, at_served, freed_in}
 use Rattle.sw_reactor_laws.specs.Stopped.{stop_at, stop_read}
 use Rattle.sw_reactor_laws.proofs.Ending.{chosen_chose, CountsAfter, call_counts}
 use Rattle.sw_world_reactor.specs.Calls.{packets_counted}
-use Rattle.sw_world_reactor.specs.Reactors.{ComesFirst, GotFirst, table_got, world_ask, ReactorTurn, RTurn, AllTold, RunWith, GoesToWorker, Ran, Behind, QuietBy, RQuiet, RDone}
+use Rattle.sw_world_reactor.specs.Reactors.{table_got, world_ask, ReactorTurn, RTurn, AllTold, RunWith, Ran, Behind, QuietBy, RQuiet, RDone}
 use Rattle.sw_world_reactor.proofs.Answers.{Faithful, be_faithful}
 use Rattle.sw_world_reactor.proofs.Calls.{Turned, choice_chose, turn_made, told_rest}
+use Rattle.sw_world_reactor.proofs.Once.{only_call, some_came, chosen_begun, behind_call}
 
 -- counts of NoMore behind a turn
 count_turn : (t : Terms) (starved : Bool) (a : Answers) (got : TableGot Message) (took pushed : Mail) (r : Table) → Counts t took pushed (settled t starved got r) → CountsAfter t took pushed (turn t starved a got r)
@@ -43,31 +44,6 @@ none_given j = rw (low j) refl
   where
     low : (k : ℕ) → nat_lt k 0 ≡ false
     low k = grind (arith, nat_tests)
-
--- no link comes behind a NoMore
-no_items : (xs : List ℕ) → length xs ≡ 0 → xs ≡ []
-no_items [] e = refl
-no_items (x ∷ xs) e = absurd (cc)
-
-link_first : (m : Message) (s : Table) → ComesFirst m s → ¬ (s.ends ≡ 0) → fresh_in m ≡ []
-link_first (FreshMsg ip n) s f some = absurd (some f)
-link_first (SendMsg n b) s f some = refl
-link_first (CloseMsg n) s f some = refl
-link_first (ResetMsg n) s f some = refl
-link_first (Bye n) s f some = refl
-link_first (EventMsg e) s f some = refl
-link_first (OverMsg id) s f some = refl
-link_first NoMore s f some = refl
-
-links_append : (took : Mail) (from : ActorId) (m : Message) → LinksFirst took → (¬ (collect no_more (bare took) ≡ []) → fresh_in m ≡ []) → LinksFirst (took ++ (from, m) ∷ [])
-links_append [] from m h f = ((λ some. refl), tt)
-links_append (x ∷ ms) from m h f = (
-  (λ some. collect_more ms from m ∙ ap (λ (zs : List ℕ). zs ++ fresh_in m) (h.0 some) ∙ f (λ z. some (append_none (no_more x.1) (collect no_more (bare ms)) z).0)),
-  links_append ms from m h.1 (λ some. f (λ z. some (append_none (no_more x.1) (collect no_more (bare ms)) z).1)),
-)
-  where
-    collect_more : (zs : Mail) (from : ActorId) (m : Message) → collect fresh_in (bare (zs ++ (from, m) ∷ [])) ≡ collect fresh_in (bare zs) ++ fresh_in m
-    collect_more zs from m = ap (collect fresh_in) (collect-append msg_of zs ((from, m) ∷ [])) ∙ collect-append fresh_in (bare zs) (m ∷ []) ∙ ap (λ (ys : List ℕ). collect fresh_in (bare zs) ++ ys) (append-nil (fresh_in m))
 
 -- of calls and further calls
 told_left : (word : ℕ → ℕ) (xs ys : List Did) → AllTold word (xs ++ ys) → AllTold word xs
@@ -88,7 +64,7 @@ told_right word xs ys h =
 first_ran : (t : Terms) (dids : List Did) (u : Table) (ask : Ask) → ReactorTurn t started GotStart dids u ask → Ran t [] [] u dids
 first_ran t dids u ask h =
     (let c : CountsAfter t [] [] (turn t h.starved h.answers gots.Start started) = count_turn t h.starved h.answers gots.Start [] [] started (record { ends = refl; gave = λ j. none_given j; tight = λ e. refl }) in
-    subst (λ (x : Table). Ran t [] [] x dids) (sym h.state) (record { counts = c.counts; giving = c.giving; done = c.done; only = tt; first = tt; runs = λ word told. runs word told }))
+    subst (λ (x : Table). Ran t [] [] x dids) (sym h.state) (record { counts = c.counts; giving = c.giving; done = c.done; only = tt; begun = chosen_begun t h.answers (settled t h.starved gots.Start started) [] (λ lt. absurd (omega (arith, lt))) started.last; ended = λ some. absurd (some refl); runs = λ word told. runs word told }))
   where
     runs : (word : ℕ → ℕ) → AllTold word dids → RunWith t word [] [] (turn t h.starved h.answers gots.Start started) dids
     runs word told =
@@ -102,27 +78,11 @@ first_ran t dids u ask h =
 -- and each later one
 then_ran : (t : Terms) (s : Table) (got : Got) (dids : List Did) (u : Table) (ask : Ask) (d : Diary) → ReactorTurn t s got dids u ask → Behind t s (table_got got) d → Ran t d.took d.pushed u (d.dids ++ dids)
 then_ran t s got dids u ask d h b =
-    (let c : CountsAfter t d.took d.pushed (turn t h.starved h.answers (table_got got) s) =
-    count_turn t h.starved h.answers (table_got got) d.took d.pushed s
-    (call_counts t s b.took b.pushed d.took d.pushed (table_got got) b.call (record { counts = b.ran.counts; giving = b.ran.giving; done = b.ran.done }) h.starved) in
+    (let k : Counts t d.took d.pushed (settled t h.starved (table_got got) s) = call_counts t s b.took b.pushed d.took d.pushed (table_got got) b.call (record { counts = b.ran.counts; giving = b.ran.giving; done = b.ran.done }) h.starved in
+    let c : CountsAfter t d.took d.pushed (turn t h.starved h.answers (table_got got) s) = count_turn t h.starved h.answers (table_got got) d.took d.pushed s k in
     subst (λ (x : Table). Ran t d.took d.pushed x (d.dids ++ dids)) (sym h.state)
-    (record { counts = c.counts; giving = c.giving; done = c.done; only = only b.took b.pushed d.took d.pushed (table_got got) b.call b.ran.only; first = came got h.first d.took d.pushed b.call; runs = λ word told. runs word told }))
+    (record { counts = c.counts; giving = c.giving; done = c.done; only = only_call s b.took b.pushed d.took d.pushed (table_got got) b.call b.ran.only; begun = chosen_begun t h.answers (settled t h.starved (table_got got) s) d.took (some_came (settled t h.starved (table_got got) s).ends (collect no_more (bare d.took)) k.ends) s.last; ended = behind_call s b.took b.pushed d.took d.pushed (table_got got) b.call b.ran.begun b.ran.ended; runs = λ word told. runs word told }))
   where
-    only : (took pushed later more : Mail) (g : TableGot Message) → Called s took pushed later more g → Each GoesToWorker pushed → Each GoesToWorker more
-    only took pushed _ _ _ (TookOne e from m) k = k
-    only took pushed _ _ _ (FoundNone e) k = k
-    only took pushed _ _ _ (PushedOne w m e) k = each_append GoesToWorker pushed ((Worker w, m) ∷ []) k ((w, refl), tt)
-    only took pushed _ _ _ (CameBack w m e) k = k
-    only took pushed _ _ _ (NoCall e) k = k
-
-    came : (g : Got) → GotFirst g s → (later more : Mail) → Called s b.took b.pushed later more (table_got g) → LinksFirst later
-    came GotStart f later more x = elim x [ ]
-    came (GotTook m) f _ _ (TookOne e from k) = links_append b.took from k b.ran.first (λ some. link_first k s f (subst (λ (k : ℕ). ¬ (k ≡ 0)) (sym b.ran.counts.ends) (λ z. some (no_items (collect no_more (bare b.took)) z))))
-    came GotEmpty f _ _ (FoundNone e) = b.ran.first
-    came GotPushed f _ _ (PushedOne w m e) = b.ran.first
-    came (GotFull m) f _ _ (CameBack w k e) = b.ran.first
-    came GotNothing f _ _ (NoCall e) = b.ran.first
-
     join : (b1 : Bool) → (x y : Bool) → (if b1 then true else x) ≡ true → (b1 ≡ true) ⊎ (x ≡ true)
     join true x y e = inl refl
     join false x y e = inr e

@@ -5,3 +5,4 @@ pub mod Keeps
 pub mod Shows
 pub mod Done
 pub mod Family
+pub mod Once

@@ -1,5 +1,5 @@
 -- What the reactor's law shows.
-use Rattle.std.proofs.Common.{◌≡◌, ◌⊎◌, ℕ, ◌+◌, ◌<◌, ◌%◌, ◌==◌, Bool, true, false, if◌then◌else◌, List, [], ◌∷◌, ◌++◌, length, Option, Some, None, refl, ap, ◌∙◌, sym, subst, append-nil, arith, inl, inr, zero, suc}
+use Rattle.std.proofs.Common.{◌≡◌, ◌⊎◌, ℕ, ◌+◌, ◌<◌, ◌≤◌, ◌%◌, ◌==◌, Bool, true, false, if◌then◌else◌, List, [], ◌∷◌, ◌++◌, length, Option, Some, None, refl, ap, ◌∙◌, sym, subst, append-nil, arith, inl, inr, zero, suc}
 use Rattle.sw_lists.specs.Lists.{collect, Each, Has}
 use Rattle.sw_lists.specs.Numbers.{Distinct}
 use Rattle.sw_lists.proofs.Lists.{collect-append, collect-same, each_more, each_at, eq_same, eq_other, equal_or_not, append_none}
@@ -19,8 +19,8 @@ use Rattle.sw_record.specs.Causes.{ShowsCause}
 use Rattle.sw_record.specs.Counts.{total}
 use Rattle.sw_record.specs.Sessions.{sess, some_of}
 use Rattle.sw_past.specs.Messages.{Message}
-use Rattle.sw_past.specs.Past.{Mail, bare, msg_of}
-use Rattle.sw_past.specs.Views.{fresh_in, close_of, reset_of}
+use Rattle.sw_past.specs.Past.{Mail, bare, msg_of, of}
+use Rattle.sw_past.specs.Views.{fresh_in, close_of, reset_of, no_more}
 use Rattle.sw_past.specs.Routes.{IsHand, IsFair}
 use Rattle.sw_join.specs.Laws.{ReactorLaw}
 use Rattle.sw_join.specs.Modes.{AimOf, EndOf}
@@ -32,7 +32,7 @@ use Rattle.sw_world_laws.specs.Shows.{FitsKept, HasWord, ReactorMore, Shows}
 use Rattle.sw_world_laws.specs.Account.{is_session}
 use Rattle.sw_world_laws.proofs.Locals.{no_hand_reactor}
 use Rattle.sw_reactor_table.specs.Conn.{Conn, live_link}
-use Rattle.sw_reactor_table.specs.Reactor.{Reactor as Table, all, live_links, kept, started}
+use Rattle.sw_reactor_table.specs.Reactor.{Reactor as Table, all, settled, live_links, kept, started}
 use Rattle.sw_reactor_table.specs.Quiet.{session_over, some_list}
 use Rattle.sw_reactor_table.specs.Runs.{Called, TookOne, FoundNone, PushedOne, CameBack, NoCall}
 use Rattle.sw_reactor_table.proofs.Grows.{fit_grows}
@@ -42,8 +42,10 @@ use Rattle.sw_reactor_laws.specs.Histories.{freed_of, freed_by, told_uid, reads_
 use Rattle.sw_reactor_laws.specs.Rests.{RestsOn}
 use Rattle.sw_reactor_laws.specs.Shows.{ReactorMore as TableMore}
 use Rattle.sw_reactor_laws.proofs.Shows.{reactor_more}
+use Rattle.sw_reactor_laws.proofs.Ending.{call_counts}
 use Rattle.sw_reactor_laws.proofs.Histories.{Listed, runs_listed}
 use Rattle.sw_world_reactor.specs.Reactors.{is_peer_end, is_fault, ended_by, any_ended, told_by, AllTold, RunWith, Ran, Behind, QuietBy, RQuiet, RDone}
+use Rattle.sw_world_reactor.proofs.Once.{once_to, only_call, behind_call}
 
 -- what came so far goes on
 called_more : (s : Table) (took pushed later more : Mail) (got : TableGot Message) → Called s took pushed later more got → (rest : Mail) × (later ≡ took ++ rest)
@@ -168,18 +170,22 @@ first_has s u (p ∷ ps) (zero, q) = (0, let i : p ≡ (s, u) = cc in ap (λ (x 
 first_has s u (p ∷ ps) (suc k, q) = (let r = first_has s u ps (k, q) in (suc r.0, r.1))
 
 -- runs behind some turns, and what came later
-record Shown (t : Terms) (n : ℕ) (s : Table) (took pushed : Mail) (dids : List Did) (later : Mail) : Type 0 where
+record Shown (t : Terms) (n : ℕ) (s : Table) (took pushed : Mail) (dids : List Did) (later more : Mail) : Type 0 where
   runs : (word : ℕ → ℕ) → AllTold word dids → RunWith t word took pushed s dids
   rest : Mail
   goes : later ≡ took ++ rest
   fair : IsFair t n later → IsFair t n took
+  last : (x : ActorId) → length (collect no_more (of x more)) ≤ 1
+  ended : ¬ (collect no_more (bare more) ≡ []) → ¬ (collect no_more (bare later) ≡ [])
 
-more_shown : (t : Terms) → 0 < t.worker_num → IsFit t.framing → (n : ℕ) → n < t.reactor_num → (s : Table) (took pushed : Mail) (d : Diary) → Shown t n s took pushed d.dids d.took → (word : ℕ → ℕ) → AllTold word d.dids → IsFair t n d.took → ReactorMore t (kept t s) (told_by s) d
+more_shown : (t : Terms) → 0 < t.worker_num → IsFit t.framing → (n : ℕ) → n < t.reactor_num → (s : Table) (took pushed : Mail) (d : Diary) → Shown t n s took pushed d.dids d.took d.pushed → (word : ℕ → ℕ) → AllTold word d.dids → IsFair t n d.took → ReactorMore t (kept t s) (told_by s) d
 more_shown t some fit n lt s took pushed d h word told fair =
     record {
       freed_once = subst (λ (ps : List (ℕ × ℕ)). Distinct (firsts ps)) (sym w.frees) x.once;
       freed_fresh = subst (λ (ps : List (ℕ × ℕ)). Each (λ k. Has k (collect fresh_in (bare d.took))) (firsts ps)) (sym w.frees) (each_more (λ k. Has k (collect fresh_in (bare took))) (λ k. Has k (collect fresh_in (bare d.took))) _ (λ k has. has_more took d.took h.rest h.goes k has) x.came);
       freed_kept = λ k has. x.release k (subst (λ (ps : List (ℕ × ℕ)). Has k (firsts ps)) w.frees has);
+      last = h.last;
+      ended = h.ended;
       ends = w.ends;
       packets = (let e : length _ ≡ total (kept t s) = w.packets ∙ x.packets in omega (arith, e));
       sessions = x.sessions;
@@ -252,7 +258,7 @@ behind_shows t some fit n lt s got d b word =
     let go = called_more s b.took b.pushed d.took d.pushed got b.call in
     let w : RunWith t word.word b.took b.pushed s d.dids = b.ran.runs word.word told in (
       (always t word.word some fit n lt b.took b.pushed s w.run).behind d.took d.pushed got b.call,
-      λ fair. more_shown t some fit n lt s b.took b.pushed d (record { runs = b.ran.runs; rest = go.0; goes = go.1; fair = λ f. call_fair t n s b.took b.pushed d.took d.pushed got b.call f }) word.word told fair,
+      λ fair. more_shown t some fit n lt s b.took b.pushed d (record { runs = b.ran.runs; rest = go.0; goes = go.1; fair = λ f. call_fair t n s b.took b.pushed d.took d.pushed got b.call f; last = once_to t (settled t false got s) d.took d.pushed (call_counts t s b.took b.pushed d.took d.pushed got b.call (record { counts = b.ran.counts; giving = b.ran.giving; done = b.ran.done }) false) (only_call s b.took b.pushed d.took d.pushed got b.call b.ran.only); ended = behind_call s b.took b.pushed d.took d.pushed got b.call b.ran.begun b.ran.ended }) word.word told fair,
     ))
 
 done_shows_all : (t : Terms) → 0 < t.worker_num → IsFit t.framing → (n : ℕ) → n < t.reactor_num → (s : Table) (d : Diary) → Ran t d.took d.pushed s d.dids → law_and_more t n s d
@@ -260,7 +266,7 @@ done_shows_all t some fit n lt s d r word =
     (let told : AllTold word.word d.dids = told_of d.dids word in
     let w : RunWith t word.word d.took d.pushed s d.dids = r.runs word.word told in (
       (always t word.word some fit n lt d.took d.pushed s w.run).before,
-      λ fair. more_shown t some fit n lt s d.took d.pushed d (record { runs = r.runs; rest = []; goes = sym (append-nil d.took); fair = λ f. f }) word.word told fair,
+      λ fair. more_shown t some fit n lt s d.took d.pushed d (record { runs = r.runs; rest = []; goes = sym (append-nil d.took); fair = λ f. f; last = once_to t s d.took d.pushed r.counts r.only; ended = r.ended }) word.word told fair,
     ))
 
 silent : (t : Terms) (n : ℕ) → law_and_more t n started no_diary
@@ -273,6 +279,8 @@ silent t n word = (
     freed_once = tt;
     freed_fresh = tt;
     freed_kept = λ s has. absurd (let q = has.1 in cc);
+    last = λ x. (omega arith);
+    ended = λ k. absurd (k refl);
     ends = (omega arith);
     packets = (omega arith);
     sessions = tt;

@@ -11,7 +11,8 @@ use Rattle.sw_record.specs.declared.record.LinkState.TheVariants.{Waiting, Live,
 use Rattle.sw_record.specs.declared.record.LinkRecord.{LinkRecord}
 use Rattle.sw_record.specs.Terms.{Terms}
 use Rattle.sw_past.specs.Messages.{Message, FreshMsg, SendMsg, CloseMsg, ResetMsg, Bye, EventMsg, OverMsg, NoMore}
-use Rattle.sw_past.specs.Past.{Mail}
+use Rattle.sw_past.specs.Past.{Mail, bare}
+use Rattle.sw_past.specs.Views.{no_more}
 use Rattle.sw_world_ports.specs.Calls.{Did, IsReactor}
 use Rattle.sw_world_ports.specs.Made.{found_in, free_in, saw_stop_in, add_in}
 use Rattle.sw_world_laws.specs.Turns.{Ask, AskTake, AskPush, AskNothing, AskRest, AskFinished, Got, GotStart, GotTook, GotEmpty, GotPushed, GotFull, GotNothing, Diary, no_diary}
@@ -22,7 +23,7 @@ use Rattle.sw_reactor_table.specs.Conn.{Answers}
 use Rattle.sw_reactor_table.specs.Reactor.{Reactor as Table, Ask as TableAsk, Take, Push, Nothing, Rest, Finished, settled, turn, started}
 use Rattle.sw_reactor_table.specs.Quiet.{IsIdle}
 use Rattle.sw_reactor_table.specs.Runs.{Called, Runs}
-use Rattle.sw_reactor_laws.specs.Ending.{Counts, IsGiving, IsDone, LinksFirst}
+use Rattle.sw_reactor_laws.specs.Ending.{Counts, IsGiving, IsDone}
 use Rattle.sw_reactor_laws.specs.Stopped.{stop_read}
 use Rattle.sw_reactor_laws.specs.Histories.{counted_in, freed_in}
 use Rattle.sw_world_reactor.specs.Calls.{TurnCalls}
@@ -44,29 +45,8 @@ world_ask Nothing = AskNothing
 world_ask Rest = AskRest
 world_ask Finished = AskFinished
 
--- no link comes behind a NoMore
-abbrev pub ComesFirst : Message → Table → Type 0
-ComesFirst (FreshMsg ip n) s = s.ends ≡ 0
-ComesFirst (SendMsg n b) s = Unit {0}
-ComesFirst (CloseMsg n) s = Unit {0}
-ComesFirst (ResetMsg n) s = Unit {0}
-ComesFirst (Bye n) s = Unit {0}
-ComesFirst (EventMsg e) s = Unit {0}
-ComesFirst (OverMsg id) s = Unit {0}
-ComesFirst NoMore s = Unit {0}
-
--- the same of what a turn begins with
-abbrev pub GotFirst : Got → Table → Type 0
-GotFirst (GotTook m) s = ComesFirst m s
-GotFirst GotStart s = Unit {0}
-GotFirst GotEmpty s = Unit {0}
-GotFirst GotPushed s = Unit {0}
-GotFirst (GotFull m) s = Unit {0}
-GotFirst GotNothing s = Unit {0}
-
 -- a turn: the table's, whatever its links answer, with the table's calls
 pub record ReactorTurn (t : Terms) (s : Table) (got : Got) (dids : List Did) (u : Table) (ask : Ask) : Type 0 where
-  pub first : GotFirst got s
   pub starved : Bool
   pub answers : Answers
   pub idle : IsIdle t answers
@@ -127,14 +107,34 @@ pub record RunWith (t : Terms) (word : ℕ → ℕ) (took pushed : Mail) (s : Ta
 abbrev pub GoesToWorker : ActorId × Message → Type 0
 GoesToWorker e = (w : ℕ) × (e.0 ≡ Worker w)
 
--- behind a turn, before the pipe call that it asks for: its counts of NoMore, whom it pushed to, that no link came behind a
--- NoMore, and a run for all uids that agree
+-- a NoMore is pushed once one came
+abbrev pub IsBegunMsg : Mail → Message → Type 0
+IsBegunMsg took NoMore = ¬ (collect no_more (bare took) ≡ [])
+IsBegunMsg took (FreshMsg ip n) = Unit {0}
+IsBegunMsg took (SendMsg n b) = Unit {0}
+IsBegunMsg took (CloseMsg n) = Unit {0}
+IsBegunMsg took (ResetMsg n) = Unit {0}
+IsBegunMsg took (Bye n) = Unit {0}
+IsBegunMsg took (EventMsg e) = Unit {0}
+IsBegunMsg took (OverMsg id) = Unit {0}
+
+-- the same of an ask
+abbrev pub IsBegun : Mail → TableAsk → Type 0
+IsBegun took (Push w m) = IsBegunMsg took m
+IsBegun took Take = Unit {0}
+IsBegun took Nothing = Unit {0}
+IsBegun took Rest = Unit {0}
+IsBegun took Finished = Unit {0}
+
+-- behind a turn, before the pipe call that it asks for: its counts of NoMore, that it pushes none before one came, whom it
+-- pushed to, and a run for all uids that agree
 pub record Ran (t : Terms) (took pushed : Mail) (s : Table) (dids : List Did) : Type 0 where
   pub counts : Counts t took pushed s
   pub giving : IsGiving s.given s.last
   pub done : s.last ≡ Finished → IsDone t s
   pub only : Each GoesToWorker pushed
-  pub first : LinksFirst took
+  pub begun : IsBegun took s.last
+  pub ended : ¬ (collect no_more (bare pushed) ≡ []) → ¬ (collect no_more (bare took) ≡ [])
   pub runs : (word : ℕ → ℕ) → AllTold word dids → RunWith t word took pushed s dids
 
 -- behind the pipe call

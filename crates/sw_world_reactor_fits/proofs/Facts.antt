@@ -77,7 +77,7 @@ next_here s c cs e =
     subst (Has c.session) (sym (ap (λ (ds : List Conn). collect session_in (s.done ++ ds)) e ∙ collect-append session_in s.done (c ∷ cs)))
     (has_right c.session (collect session_in s.done) (c.session ∷ collect session_in cs) (0, refl))
 
-apart : (xs ys : List ℕ) (k : ℕ) → Distinct (xs ++ ys) → Has k xs → Has k ys → ⊥
+pub apart : (xs ys : List ℕ) (k : ℕ) → Distinct (xs ++ ys) → Has k xs → Has k ys → ⊥
 apart [] ys k d (zero, q) h = absurd (cc)
 apart [] ys k d (suc m, q) h = absurd (cc)
 apart (x ∷ xs) ys k d (zero, q) h = (let i : x ≡ k = cc in none (xs ++ ys) d.0 (subst (λ (v : ℕ). Has v (xs ++ ys)) (sym i) (has_right k xs ys h)))
@@ -90,7 +90,7 @@ apart (x ∷ xs) ys k d (zero, q) h = (let i : x ≡ k = cc in none (xs ++ ys) d
 apart (x ∷ xs) ys k d (suc m, q) h = apart xs ys k d.1 (m, q) h
 
 -- the sessions that were released are those of the links that ended
-freed_over : (t : Terms) → 0 < t.worker_num → IsFit t.framing → (n : ℕ) → n < t.reactor_num → (s : Table) (got : TableGot Message) (d : Diary) (word : ℕ → ℕ) → AllTold word d.dids → Behind t s got d → IsFair t n d.took → firsts (collect free_in d.dids) ≡ collect session_over s.over
+pub freed_over : (t : Terms) → 0 < t.worker_num → IsFit t.framing → (n : ℕ) → n < t.reactor_num → (s : Table) (got : TableGot Message) (d : Diary) (word : ℕ → ℕ) → AllTold word d.dids → Behind t s got d → IsFair t n d.took → firsts (collect free_in d.dids) ≡ collect session_over s.over
 freed_over t some fit n lt s got d word told b fair =
     (let w : RunWith t word b.took b.pushed s d.dids = b.ran.runs word told in
     let l : Listed b.took (all s) s.over = runs_listed t (AimOf t) (EndOf t) (mode_laws t) word some (fit_grows t fit) n lt b.took b.pushed s w.run (call_fair t n s b.took b.pushed d.took d.pushed got b.call fair) in

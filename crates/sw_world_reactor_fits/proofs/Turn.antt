@@ -41,7 +41,7 @@ use Rattle.sw_reactor_fits.specs.Ports.{EndsGo, AreSound, IsTheTables}
 use Rattle.sw_reactor_fits.proofs.Turning.{turns_is}
 use Rattle.sw_reactor_fits.proofs.Running.{turn_of_run}
 use Rattle.sw_world_reactor.specs.Calls.{TurnCalls}
-use Rattle.sw_world_reactor.specs.Reactors.{table_got, world_ask, GotFirst, ReactorTurn, RTurn, AllTold, Behind, QuietBy}
+use Rattle.sw_world_reactor.specs.Reactors.{table_got, world_ask, ReactorTurn, RTurn, AllTold, Behind, QuietBy}
 use Rattle.sw_world_reactor_fits.specs.Plain.{itself, memory_tells, plain_ports, got_of, ask_of, AreEnds, ReactorIs}
 use Rattle.sw_world_reactor_fits.specs.Turns.{Before, TurnIs}
 use Rattle.sw_world_reactor_fits.proofs.Links.{memory_does, plain_sound}
@@ -140,7 +140,7 @@ turn_is {E} puts kept_of t legal n p s d r q got a b b2 o o2 e f h z =
     record {
       dids = x.dids;
       state = u;
-      turns = record { first = h.first; starved = x.starved; answers = x.answers; idle = x.idle; calls = subst (λ (y : TableGot Message). TurnCalls t x.answers y s.last (settled t x.starved y s) x.dids) (got_same got) x.calls; state = ap (λ (y : TableGot Message). turn t x.starved x.answers y s) (got_same got); asks = ask_same u.last a x.asks };
+      turns = record { starved = x.starved; answers = x.answers; idle = x.idle; calls = subst (λ (y : TableGot Message). TurnCalls t x.answers y s.last (settled t x.starved y s) x.dids) (got_same got) x.calls; state = ap (λ (y : TableGot Message). turn t x.starved x.answers y s) (got_same got); asks = ask_same u.last a x.asks };
       answers = ans.answers;
       is = record { fits = x.fits; ends = ends_then puts kept_of e f h.keeps s.over u.over x.ends h.is.ends };
       book = ans.book;

@@ -29,7 +29,7 @@ use Rattle.sw_reactor.specs.declared.reactor.Reactor.{Reactor}
 use Rattle.sw_reactor.specs.Turn.{Asks}
 use Rattle.sw_reactor_fits.specs.Told.{BringsNew}
 use Rattle.sw_reactor_fits.specs.Fits.{Sizes}
-use Rattle.sw_world_reactor.specs.Reactors.{GotFirst, ReactorTurn, QuietBy}
+use Rattle.sw_world_reactor.specs.Reactors.{ReactorTurn, QuietBy}
 use Rattle.sw_world_reactor_fits.specs.Plain.{memory_tells, got_of, ask_of, ReactorIs}
 
 -- before a turn of reactor n, with what its ends keep and with its diary
@@ -45,7 +45,6 @@ pub record Before {E : Type 0} (puts : E → MemoryLink → Ended → Bool → E
   pub fair : IsFair t n d.took
   pub low : Each (λ k. (¬ (k ≡ 0)) × (k < 2 ^ 32)) (collect fresh_in (bare d.took))
   pub there : (k : ℕ) → Has k (collect fresh_in (bare d.took)) → ¬ Has k (firsts (collect free_in d.dids)) → (p.words (k % t.max_conn)).0 ≡ k
-  pub first : GotFirst (got_of got) s
   -- the code, its ports, and a taken link
   pub is : ReactorIs t r (kept_of e) s
   pub book : BookStands t b p

@@ -1,0 +1,9 @@
+pub mod Peel
+pub mod Cuts
+pub mod Items
+pub mod Words
+pub mod ValueLaw
+pub mod PairLaw
+pub mod VerbLaw
+pub mod CallLaw
+pub mod ReplyLaw

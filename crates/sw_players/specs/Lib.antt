@@ -1,0 +1,5 @@
+pub mod Hears
+pub mod Over
+pub mod Turns
+pub mod Made
+pub mod Actors

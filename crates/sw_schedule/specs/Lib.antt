@@ -1,0 +1,5 @@
+pub mod Actors
+pub mod Peers
+pub mod Outside
+pub mod Draft
+pub mod Grammar

@@ -1,0 +1,3 @@
+pub mod Accounting
+pub mod Firsts
+pub mod Kept

@@ -1,0 +1,4 @@
+pub mod Lists
+pub mod Workers
+pub mod Taskers
+pub mod Recorded

@@ -1,0 +1,4 @@
+pub mod Caps
+pub mod Door
+pub mod New
+pub mod Front

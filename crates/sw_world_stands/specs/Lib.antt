@@ -1,0 +1,4 @@
+pub mod Asked
+pub mod New
+pub mod Rows
+pub mod Links

@@ -1,0 +1,4 @@
+pub mod State
+pub mod Feeding
+pub mod Turning
+pub mod Steps
