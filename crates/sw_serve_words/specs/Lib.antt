@@ -1,0 +1,4 @@
+pub mod Unset
+pub mod Serve
+pub mod Load
+pub mod Kinds
