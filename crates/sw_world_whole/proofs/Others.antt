@@ -1,5 +1,5 @@
 -- One actor's state is changed, and its code; all others stay.
-use Rattle.std.proofs.Common.{◌≡◌, ℕ, Bool, true, false, if◌then◌else◌, List, refl, ap, ◌∙◌, sym, subst, slice_get, slice_set}
+use Rattle.std.proofs.Common.{◌≡◌, ℕ, Bool, true, false, if◌then◌else◌, List, refl, ap, ◌∙◌, sym, subst, slice_get, slice_set, Some}
 use Rattle.sw_step.specs.declared.actor.ActorId.{ActorId}
 use Rattle.sw_step.specs.declared.actor.ActorId.TheVariants.{Door, Reactor, Worker, Tasker}
 use Rattle.sw_step.specs.Actors.{is}
