@@ -1,5 +1,5 @@
 -- Any step.
-use Rattle.std.proofs.Common.{◌≡◌, sym, subst}
+use Rattle.std.proofs.Common.{sym, subst}
 use Rattle.sw_step.specs.declared.step.Step.{Step}
 use Rattle.sw_step.specs.declared.step.Step.TheVariants as steps
 use Rattle.sw_link.specs.declared.memory_link.LinkStep.TheVariants as scripts

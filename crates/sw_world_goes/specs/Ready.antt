@@ -1,5 +1,5 @@
 -- The core's code is ready for a step, and stands for a core.
-use Rattle.std.specs.Prelude.{◌≡◌, ◌⊎◌, ℕ, ◌+◌, ◌<◌, ◌≤◌, ◌^◌, length, slice_get, Some}
+use Rattle.std.specs.Prelude.{◌≡◌, ℕ, ◌+◌, ◌≤◌, ◌^◌, length, slice_get, Some}
 use Rattle.sw_record.specs.Words.{Log}
 use Rattle.sw_record.specs.Terms.{Terms}
 use Rattle.sw_table_laws.specs.Table.{Shape}
@@ -8,7 +8,7 @@ use Rattle.sw_world_hands.specs.Hands.{Crews}
 use Rattle.sw_world_steps.specs.Server.{IsServed, AState}
 use Rattle.sw_world_reactors.specs.declared.owner.Owner.{Owner}
 use Rattle.sw_world_reactors.specs.Owners.{IsReadyOwner}
-use Rattle.sw_world_whole.specs.Whole.{Stands, IsStep}
+use Rattle.sw_world_whole.specs.Whole.{IsStep}
 use Rattle.sw_world_state.specs.declared.state.State.{State}
 use Rattle.sw_world_state.specs.State.{parts_of, views}
 
