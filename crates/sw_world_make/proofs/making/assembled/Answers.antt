@@ -1,6 +1,7 @@
 use Rattle.std.proofs.Common.{length, map}
 use Rattle.sw_world_make.proofs.Refusing.{counted, handled}
 use Rattle.sw_world_make.proofs.Assembling.{new_core, ready, few_lists, few_handlers}
+use Rattle.sw_world_make.specs.declared.made.Made.{Made}
 use Rattle.sw_world_make.proofs.making.assembled.Goals as goal
 
 pub workers-requires-clause-some : goal.workers-requires-clause-some
@@ -15,7 +16,8 @@ taskers-requires g c = few_handlers c.args.settings.now (length c.args.tasks.ite
 pub returns-clause-starts : goal.returns-clause-starts
 returns-clause-starts g c =
     let right = counted c.args.settings.now (map (λ hs. hs.items) c.args.given.items) (length c.args.tasks.items) c.requires in
-    new_core c.args.settings.now (map (λ hs. hs.items) c.args.given.items) c.args.tasks.items _ right.0 right.1.0 c.in_ok-front.ensures c.in_ok-places.ensures c.in_ok-book.ensures c.in_ok-board.ensures c.in_ok-shelf.ensures c.in_ok-reactors.ensures c.in_ok-workers.ensures c.in_ok-taskers.ensures
+    let made : Made _ _ = record { front = c.in_ok-front.field-0; places = c.in_ok-places.field-0; book = c.in_ok-book.field-0; board = c.in_ok-board.field-0; shelf = c.in_ok-shelf.field-0; reactors = c.in_ok-reactors.field-0; crew = record { workers = c.in_ok-workers.field-0; taskers = c.in_ok-taskers.field-0 }; max_conn = c.max_conn-slots.result } in
+    new_core c.args.settings.now (map (λ hs. hs.items) c.args.given.items) c.args.tasks.items made right.0 right.1.0 c.in_ok-front.ensures c.in_ok-places.ensures c.in_ok-book.ensures c.in_ok-board.ensures c.in_ok-shelf.ensures c.in_ok-reactors.ensures c.in_ok-workers.ensures c.in_ok-taskers.ensures
 
 pub returns-clause-ready : goal.returns-clause-ready
 returns-clause-ready g c =
