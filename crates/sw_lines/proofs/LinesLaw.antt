@@ -1,5 +1,5 @@
 -- What lines come to, in terms of the lines alone.
-use Rattle.std.proofs.Common.{◌≡◌, ℕ, ◌+◌, List, [], ◌∷◌, length, Option, Some, None, Result, Ok, Err, refl, ap, arith}
+use Rattle.std.proofs.Common.{◌≡◌, ℕ, ◌+◌, List, [], ◌∷◌, Option, Some, None, Result, Ok, Err, refl, ap, arith}
 use Rattle.sw_lines.specs.Lines.{lines_read, numbered, IsRead}
 
 more : {S : Type 0} (f : S → List ℕ → Option S) (n : ℕ) (d m : S) (l : List ℕ) (ls : List (List ℕ)) (r : Result S ℕ) → f d l ≡ Some m → IsRead f (n + 1) m ls r → IsRead f n d (l ∷ ls) r
