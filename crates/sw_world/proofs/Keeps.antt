@@ -1,9 +1,7 @@
 -- A step leaves code that stands for a core.
-use Rattle.std.proofs.Common.{◌≡◌}
 use Rattle.sw_step.specs.declared.step.Step.{Step}
 use Rattle.sw_hand.specs.Ports.{Acting}
 use Rattle.sw_world_laws.specs.World.{next}
-use Rattle.sw_world_hand_fits.specs.Hands.{Numbers, Tells}
 use Rattle.sw_world_steps.specs.Server.{server}
 use Rattle.sw_world_crew.specs.Recorded.{log_of, recorded_acts}
 use Rattle.sw_world_crew.specs.declared.recorded.Recorded.{Recorded}

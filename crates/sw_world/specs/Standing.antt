@@ -14,12 +14,12 @@ use Rattle.sw_world_state.specs.State.{parts_of, views}
 use Rattle.sw_world_goes.specs.Ready.{Ready}
 
 -- its code, and whether a step wanted memory
-pub record Coded (H T : Type 0) : Type 0 where
+pub record CoreCode (H T : Type 0) : Type 0 where
   pub state : State (Recorded H) (Recorded T)
   pub lost : Bool
 
-abbrev pub coded : {H T : Type 0} → State (Recorded H) (Recorded T) → Bool → Coded H T
-coded state lost = record { state = state; lost = lost }
+abbrev pub code_of : {H T : Type 0} → State (Recorded H) (Recorded T) → Bool → CoreCode H T
+code_of state lost = record { state = state; lost = lost }
 
 -- under some settings it stands for a core that keeps its law, and is ready for a step
 pub record Standing {H T : Type 0} (s : State (Recorded H) (Recorded T)) : Type 0 where

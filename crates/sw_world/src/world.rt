@@ -18,12 +18,19 @@ pub struct World<H, T> {
 }
 
 impl<H, T> Model for World<H, T> {
+    ghost use Rattle.sw_world.specs.Standing.{CoreCode};
+
+    ghost Value = { CoreCode H T };
+
+    ghost use Rattle.std.specs.Coded.{codes};
+    ghost use Rattle.std.specs.FinMap.{code};
+
+    ghost coded = { Prim.hlevel (codes, code) };
+
     ghost use Rattle.std.specs.Prelude.{◌≡◌, false};
-    ghost use Rattle.sw_world.specs.Standing.{Coded, coded, Standing};
+    ghost use Rattle.sw_world.specs.Standing.{code_of, Standing};
 
-    ghost Value = { Coded H T };
-
-    ghost view = { λ w. coded w.state w.lost };
+    ghost view = { λ w. code_of w.state w.lost };
 
     // Where no step wanted memory, the code stands for a core.
     ghost invariant = { λ w. w.lost ≡ false → Standing w.state };
@@ -33,12 +40,12 @@ impl<H: Handler, T: Handler> World<H, T> {
     ghost use Rattle.std.specs.Prelude.{◌≡◌, true, false, OnOk, OnErr};
     ghost use Rattle.sw_world_crew.specs.Recorded.{recorded_acts};
     ghost use Rattle.sw_world_state.specs.Steps.{Steps};
-    ghost use Rattle.sw_world.specs.Standing.{coded, Standing, IsRight};
+    ghost use Rattle.sw_world.specs.Standing.{code_of, Standing, IsRight};
 
     /// The core of code that stands for one, as new code does.
     pub fn of(alloc: Global, state: State<Recorded<H>, Recorded<T>>) -> World<H, T>
         requires { Standing state }
-        ensures { result ≡ coded state false }
+        ensures { result ≡ code_of state false }
     {
         World {
             state,
