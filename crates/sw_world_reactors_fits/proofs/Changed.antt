@@ -114,7 +114,7 @@ linked_length s m (c ∷ cs) = pick (c.session == s) (linked_length s m cs)
     pick true rest = refl
     pick false rest = ap (λ (n : ℕ). suc n) rest
 
-linked_ready : (r : Reactor MemoryLink ℕ) (s : ℕ) (m : MemoryLink) → IsReady number r → IsReady number (record r { line = with_link r.line s m })
+pub linked_ready : (r : Reactor MemoryLink ℕ) (s : ℕ) (m : MemoryLink) → IsReady number r → IsReady number (record r { line = with_link r.line s m })
 linked_ready r s m h = record {
   workers = h.workers;
   slots = h.slots;

@@ -93,6 +93,13 @@ module _ {O H T : Type 0} (t : Terms) (served : IsServed t) (crews : Crews) (sha
       outside (record P.front { links = kept n step P.front.links }) (Script n step) (next_by t (server t served crews) c (Script n step)) (λ e. tt) refl refl refl refl refl
       (record { front = front_keeps t P.front st.door c.ports n step s.front; book = s.book; board = s.board; table = s.table })
 
+  -- a step of a script that went to a reactor's link
+  pub script_given : (n : ℕ) (step : LinkStep) → IsStep t served crews shape v c P
+  script_given n step =
+      let s = st.shared in
+      outside P.front (Script n step) (next_by t (server t served crews) c (Script n step)) (λ e. tt) refl refl refl refl refl
+      (record { front = s.front; book = s.book; board = s.board; table = s.table })
+
   -- a step that wanted memory
   pub wants : IsLostStep t served crews shape P c
   wants =

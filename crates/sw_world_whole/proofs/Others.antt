@@ -1,5 +1,5 @@
 -- One actor's state is changed, and its code; all others stay.
-use Rattle.std.proofs.Common.{◌≡◌, ℕ, Bool, true, false, if◌then◌else◌, List, refl, ap, ◌∙◌, sym, subst, slice_get, slice_set}
+use Rattle.std.proofs.Common.{◌≡◌, ℕ, Bool, true, false, if◌then◌else◌, List, refl, ap, ◌∙◌, sym, subst, slice_get, slice_set, Some}
 use Rattle.sw_step.specs.declared.actor.ActorId.{ActorId}
 use Rattle.sw_step.specs.declared.actor.ActorId.TheVariants.{Door, Reactor, Worker, Tasker}
 use Rattle.sw_step.specs.Actors.{is}
@@ -10,8 +10,10 @@ use Rattle.sw_world_laws.specs.World.{there}
 use Rattle.sw_hand.specs.declared.hand.Hand.{Hand as CodeHand}
 use Rattle.sw_worker.specs.Generations.{Line}
 use Rattle.sw_world_hands.specs.Hands.{Crews}
-use Rattle.sw_world_stands.proofs.Gets.{get_other}
-use Rattle.sw_world_stands.proofs.Rows.{is_not}
+use Rattle.sw_reactor_table.specs.Reactor.{Reactor as Table}
+use Rattle.sw_world_reactor_fits.specs.Plain.{ReactorIs}
+use Rattle.sw_world_stands.proofs.Gets.{get_other, get_same, some_same}
+use Rattle.sw_world_stands.proofs.Rows.{is_not, set_same}
 use Rattle.sw_world_steps.specs.Server.{AState}
 use Rattle.sw_world_whole.specs.Parts.{Parts, Views}
 use Rattle.sw_world_whole.specs.Whole.{ActorStands}
@@ -53,3 +55,14 @@ module _ {O H T : Type 0} (t : Terms) (crews : Crews) (v : Views O H T) where
   other_taskers P Q n q a b d (Reactor m) x ne (o, (e, h)) = (o, (ap (λ (l : List O). slice_get l m) a ∙ e, h))
   other_taskers P Q n q a b d (Worker m) x ne (o, (e, h)) = (o, (ap (λ (l : List (CodeHand (Line H))). slice_get l m) b ∙ e, h))
   other_taskers P Q n q a b d (Tasker m) x ne (o, (e, h)) = (o, (ap (λ (l : List (CodeHand T)). slice_get l m) d ∙ get_other P.taskers n m q (λ i. ne (ap (λ (k : ℕ). Tasker k) i)) ∙ e, h))
+
+  -- a reactor of the code that is the same one of the world
+  pub one_same : (P : Parts O H T) (states : ActorId → AState) (n : ℕ) (o q : O) → there t (Reactor n) ≡ true → slice_get P.owners n ≡ Some o →
+      ((s : Table) → ReactorIs t (v.reactor o) (v.ends o).kept s → ReactorIs t (v.reactor q) (v.ends q).kept s) →
+      ((z : ActorId) → there t z ≡ true → ActorStands t crews v P z (states z)) → (z : ActorId) → there t z ≡ true → ActorStands t crews v (record P { owners = slice_set P.owners n q }) z (states z)
+  one_same P states n o q here is same old z there_z =
+      let Q : Parts O H T = record P { owners = slice_set P.owners n q } in
+      let a = old (Reactor n) here in
+      let k : ReactorIs t (v.reactor q) (v.ends q).kept a.1.1.0 = same a.1.1.0 (subst (λ (x : O). ReactorIs t (v.reactor x) (v.ends x).kept a.1.1.0) (some_same a.0 o (sym a.1.0 ∙ is)) a.1.1.1.1) in
+      subst (ActorStands t crews v Q z) (set_same states (Reactor n) (states (Reactor n)) refl z)
+      (one_more P Q states (Reactor n) (states (Reactor n)) (q, (get_same P.owners n o q is, (a.1.1.0, (a.1.1.1.0, k)))) (λ w x ne h. other_reactors P Q n q refl refl refl w x ne h) old z there_z)

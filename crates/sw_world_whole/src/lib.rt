@@ -8,8 +8,8 @@ mod telling;
 mod turns;
 
 pub use outside::{
-    a_net_that_ends_is_a_step, a_new_core_stands, a_script_is_a_step, an_arrival_is_a_step,
-    want_of_memory_is_a_step,
+    a_net_that_ends_is_a_step, a_new_core_stands, a_script_is_a_step,
+    a_script_that_is_given_is_a_step, an_arrival_is_a_step, want_of_memory_is_a_step,
 };
 pub use scripts::{
     a_reactor_with_room_goes_on, a_reactors_link_goes_on, taken_links_go_on,

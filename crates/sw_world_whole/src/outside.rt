@@ -40,6 +40,13 @@ pub fn a_script_is_a_step<O, H, T>()
         IsStep t served crews shape v c (record P { front = record P.front { links = kept n step P.front.links } }) }
 {}
 
+/// So is one that went to a reactor's link, or to none.
+pub fn a_script_that_is_given_is_a_step<O, H, T>()
+    ensures { (t : Terms) (served : IsServed t) (crews : Crews) (shape : Shape) (v : Views O H T) (P : Parts O H T)
+        (c : Core AState) → Stands t served crews shape v P c → (n : ℕ) (step : LinkStep) →
+        IsStep t served crews shape v c P }
+{}
+
 /// A step that wanted memory before it did anything is one.
 pub fn want_of_memory_is_a_step<O, H, T>()
     ensures { (t : Terms) (served : IsServed t) (crews : Crews) (shape : Shape) (v : Views O H T) (P : Parts O H T)

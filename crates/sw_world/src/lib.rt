@@ -1,0 +1,7 @@
+//! The core: all actors of a server over plain pipes, plain session words, a plain board, a plain Table and links in memory. A schedule
+//! says which actor goes next and what comes from outside.
+#![tactic(auto)]
+
+mod world;
+
+pub use world::World;

@@ -1,0 +1,5 @@
+pub mod Lists
+pub mod Scripted
+pub mod Went
+pub mod May
+pub mod Any
