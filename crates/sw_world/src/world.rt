@@ -96,7 +96,7 @@ impl<H: Handler + Drop, T: Handler + Drop> World<H, T> {
     /// all actors are finished.
     pub fn account(&self) -> Result<Record, OutOfMemory>
         ensures account { IfOk result (λ r. r ≡ record_of self.now.state) }
-        ensures right { IsRightBehindRuns H.acts T.acts self.now.state }
+        ensures right { IfOk result (λ _. IsRightBehindRuns H.acts T.acts self.now.state) }
     {
         record(self.alloc, &self.state)
     }
