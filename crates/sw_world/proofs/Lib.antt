@@ -1,1 +1,5 @@
-pub mod Keeps
+pub mod Running
+pub mod Listing
+pub mod Accounts
+pub mod Telling
+pub mod Rightly
