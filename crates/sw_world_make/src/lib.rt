@@ -4,10 +4,7 @@
 
 mod counting;
 mod fault;
-mod hands;
 mod making;
-mod parts;
-mod seen;
 
 pub use fault::{Part, WorldFault};
 pub use making::make;
