@@ -1,3 +1,0 @@
-pub mod PlayedLaw
-pub mod Settled
-pub mod RightTexts
