@@ -13,8 +13,15 @@ mod rowlock_loads;
 mod rowlock_swaps;
 mod sessions;
 mod table;
+mod table_beside;
+mod table_crowd;
+mod table_shared;
 mod timers;
 
+use std::alloc::Global;
+use std::rt::Clock;
+use std::sync::Wait;
+use std::thread::Threads;
 use std::{env, io};
 
 /// What is printed where no part is named, behind a small load that is the same at each run.
@@ -32,10 +39,16 @@ fn main(rt: HostRuntime) -> io::Result<()> {
         "rowlock" => rowlock::figures(&rt, rt.alloc()),
         "board" => board::figures(&rt, rt.alloc()),
         "sessions" => sessions::figures(&rt, rt.alloc()),
-        "table" => table::figures(&rt, rt.alloc()),
+        "table" => tables(&rt, rt.alloc()),
         "audit" => audit::figures(&rt, rt.alloc()),
         "cut" => cut::figures(&rt, rt.alloc()),
         "timers" => timers::figures(&rt, rt.alloc()),
         _ => println!(rt; "{USAGE}"),
     }
+}
+
+/// The plain Table, and the one that threads share.
+fn tables<R: Clock + Print + Threads + Wait + Sync>(rt: &R, alloc: Global) -> io::Result<()> {
+    table::figures(rt, alloc)?;
+    table_shared::figures(rt, alloc)
 }
