@@ -6,6 +6,7 @@ mod copying;
 mod opening;
 mod player;
 mod runs;
+mod telling;
 #[cfg(test)]
 mod tests;
 
@@ -13,3 +14,4 @@ pub use copying::copied;
 pub use opening::opened;
 pub use player::{Played, Player, ask, play};
 pub use runs::{Outcome, new_players, run};
+pub use telling::{in_turn, tell};

@@ -1,8 +1,10 @@
 //! A thread that makes calls, and keeps what they came to.
-ghost use Rattle.std.specs.Prelude.{◌≡◌, None, IfOk};
+ghost use Rattle.std.specs.Prelude.{◌≡◌, None, IfOk, MatchResult};
 ghost use Rattle.sw_column.specs.Fit.{call_fault};
 ghost use Rattle.sw_column.specs.Values.{HasKinds};
+ghost use Rattle.sw_table_join.specs.Answers.{Answered};
 ghost use Rattle.sw_table_join.specs.Tables.{IsReady};
+ghost use Rattle.sw_table.specs.Waiting.{GivenUp};
 ghost use Rattle.sw_table_uses.specs.Players.{IsPlayer};
 
 use std::alloc::Global;
@@ -27,7 +29,7 @@ pub struct Player {
 /// What came of a player.
 pub type Played = Result<Player, OutOfMemory>;
 
-/// Makes a call, by a counted seat.
+/// Makes a call by a counted seat, as `Table::call` does.
 pub fn ask<R: Wait>(
     rt: &R,
     table: &Table,
@@ -39,6 +41,9 @@ pub fn ask<R: Wait>(
     requires row { HasKinds table.now.columns row.old }
     ensures seat { IsReady table.now 1 seat.new }
     ensures row { HasKinds table.now.columns row.new }
+    ensures call { MatchResult result
+        (λ placed. Answered table.now seat.old seat.new call.now row.old row.new placed.at placed.reply)
+        (λ fault. GivenUp table.now seat.old seat.new call.now row.old row.new fault) }
     ensures fit { IfOk result (λ _. call_fault table.now.columns call.now ≡ None) }
 {
     match table.call(rt, seat, call, row) {

@@ -1,4 +1,4 @@
-//! Threads on one Table, judged by an audit, and a bucket copied out of it.
+//! Threads on one Table, judged by an audit; a bucket copied out of it; and a call behind what a note tells.
 ghost use Rattle.sw_column.specs.Values.{HasKinds};
 ghost use Rattle.sw_table_join.specs.Tables.{IsReady};
 
@@ -8,11 +8,11 @@ use std::process::Abort;
 use std::sync::Wait;
 use std::test::Fail;
 use sw_audit::{Verdict, table_line};
-use sw_base::{Call, OutOfMemory, Reply, Value};
+use sw_base::{Call, CallFault, OutOfMemory, Reply, Value};
 use sw_call::call;
 use sw_column::RowBuf;
 use sw_port_shelf::Placed;
-use sw_table::{PartFault, Seat, Table};
+use sw_table::{PartFault, Seat, Table, close};
 
 // Each verb and what follows its key, on each of so many keys.
 fn calls(alloc: Global, verbs: &[(&str, &str)], keys: u32) -> Result<Vec<Call>, OutOfMemory> {
@@ -115,5 +115,34 @@ fn a_part_has_a_place(rt: HostRuntime) -> Result<(), Fail> {
         panic!(rt; "not two rows")
     };
     assert!(rt; first.key.bytes() == b"Aa".as_slice() && second.key.bytes() == b"BB".as_slice());
+    Ok(())
+}
+
+#[test]
+fn a_call_stands_behind_what_a_note_tells(rt: HostRuntime) -> Result<(), Fail> {
+    let alloc = rt.alloc();
+    let Some(trace) = table_line(alloc, "table", b"table 64 0 n:int:8")? else {
+        panic!(rt; "no Table")
+    };
+    let Some(incr) = call(alloc, b"incr 61 n 1")? else {
+        panic!(rt; "no call")
+    };
+    let mut row = RowBuf::make(alloc, &trace.schema)?;
+    let (table, mut hands, mut first) = opened(alloc, trace.schema, 64, 0, 3)?;
+    let mut second = hands.seat(&table, &mut first);
+    let places = in_turn(&rt, &table, &mut first, &mut second, &incr, &mut row);
+    assert_eq!(rt; places, Ok((0, 1)));
+    let places = in_turn(&rt, &table, &mut second, &mut first, &incr, &mut row);
+    assert_eq!(rt; places, Err(CallFault::Spent(3)));
+    let mut seats = Vec::new(alloc);
+    seats.push(first)?;
+    seats.push(second)?;
+    let Ok(plain) = close(alloc, &table, hands, seats) else {
+        panic!(rt; "not closed")
+    };
+    let rows = plain.rows()?;
+    assert!(rt;
+        matches!(rows.as_slice(), [row] if matches!(row.cells.as_slice(), [Value::Int(3)]))
+    );
     Ok(())
 }
