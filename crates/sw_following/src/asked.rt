@@ -18,7 +18,7 @@ fn asked(alloc: Global, script: &Script, max: u64) -> Result<HttpWorker<Followin
 }
 
 /// So many of them. The bytes are at least 1.
-#[tactic(auto, using(crate::proofs::Many::{none, one_more}))]
+#[tactic(auto, using(crate::proofs::Many::none, crate::proofs::Many::one_more, crate::proofs::Many::one_more_in))]
 pub fn asked_handlers(
     alloc: Global,
     script: &Script,
@@ -36,7 +36,7 @@ pub fn asked_handlers(
 }
 
 /// Those of so many workers, for each so many, one behind the other.
-#[tactic(auto, using(crate::proofs::Many::{none, one_more}))]
+#[tactic(auto, using(crate::proofs::Many::none, crate::proofs::Many::one_more, crate::proofs::Many::one_more_in))]
 pub fn asked_workers(
     alloc: Global,
     script: &Script,

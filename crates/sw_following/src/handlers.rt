@@ -9,7 +9,7 @@ use sw_base::OutOfMemory;
 use sw_script::Script;
 
 /// So many handlers of a script, each before it is given anything.
-#[tactic(auto, using(crate::proofs::Many::{none, one_more}))]
+#[tactic(auto, using(crate::proofs::Many::none, crate::proofs::Many::one_more, crate::proofs::Many::one_more_in))]
 pub fn handlers(alloc: Global, script: &Script, count: u32) -> Result<Vec<Following>, OutOfMemory>
     ensures { IfOk result (λ hs. AreFresh script.now count hs.items) }
 {
@@ -21,7 +21,7 @@ pub fn handlers(alloc: Global, script: &Script, count: u32) -> Result<Vec<Follow
 }
 
 /// The handlers of so many workers, for each so many, one behind the other.
-#[tactic(auto, using(crate::proofs::Many::{none, one_more}))]
+#[tactic(auto, using(crate::proofs::Many::none, crate::proofs::Many::one_more, crate::proofs::Many::one_more_in))]
 pub fn workers(
     alloc: Global,
     script: &Script,
