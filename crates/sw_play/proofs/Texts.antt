@@ -1,6 +1,17 @@
 -- What is printed is the text of a right record.
 use Rattle.std.proofs.Common.{◌≡◌, ℕ, List, Bool, true, false, Option, Some, None, Result, Ok, Err, refl}
+use Rattle.std.specs.Prelude.{IfOk}
+use Rattle.sw_base.specs.declared.out_of_memory.OutOfMemory.{OutOfMemory}
 use Rattle.sw_answer.specs.declared.refusal.Refusal.{Refusal}
+use Rattle.sw_http_worker.specs.declared.worker.HttpWorker.{HttpWorker}
+use Rattle.sw_record_text.specs.Record.{record_text}
+use Rattle.sw_world_crew.specs.declared.recorded.Recorded.{Recorded}
+use Rattle.sw_world_crew.specs.Recorded.{recorded_acts}
+use Rattle.sw_world_state.specs.declared.state.State.{State}
+use Rattle.sw_world_make.specs.Made.{IsMade}
+use Rattle.sw_world.specs.Run.{Ran}
+use Rattle.sw_world.specs.Account.{record_of}
+use Rattle.sw_world.specs.Right.{IsRightBehindRuns}
 use Rattle.sw_http_worker.specs.Worker.{Works}
 use Rattle.sw_script.specs.declared.script.Script.{Script}
 use Rattle.sw_settings.specs.declared.values.Values.{Values}
@@ -8,10 +19,13 @@ use Rattle.sw_settings.specs.Values.{values_of}
 use Rattle.sw_schedule.specs.declared.schedule.Line.{Line}
 use Rattle.sw_schedule.specs.declared.schedule.Schedule.{Schedule}
 use Rattle.sw_schedule.specs.Draft.{schedule_of}
-use Rattle.sw_following.specs.Following.{following_acts}
+use Rattle.sw_following.specs.declared.following.Following.{Following}
+use Rattle.sw_following.specs.Following.{AreFresh, AreFreshWorkers, following_acts}
+use Rattle.sw_following.specs.Asked.{AreFreshAskedWorkers}
 use Rattle.sw_hand.specs.Ports.{Acting}
+use Rattle.sw_play.specs.Steps.{steps_of}
 use Rattle.sw_play.specs.Played.{IsRightlyPlayed}
-use Rattle.sw_play.specs.Drilled.{IsRunBy}
+use Rattle.sw_play.specs.Drilled.{IsPlain, IsAsked, IsRunBy}
 use Rattle.sw_play.specs.Answers.{AnswersBy, Answers}
 use Rattle.sw_play.specs.Rightly.{IsOfRight, IsOfRightBy, IsRightText, PrintsRight}
 
@@ -34,3 +48,27 @@ right_text input text a = by_read input text (schedule_of input) refl a
 pub prints_right : (input : List ℕ) (r : Result (List ℕ) Refusal) → Answers input r → PrintsRight input r
 prints_right input (Ok text) a = right_text input text a
 prints_right input (Err refusal) a = tt
+
+-- ---- a run
+
+-- the record behind the lines' steps is right
+pub played_so : {H T S : Type 0} (acts : Acting H) (does : Acting T) (v : Values) (given : List (List H)) (tasks : List T) (lines : List Line) (first last : State (Recorded H) (Recorded T)) (view : S → List ℕ) (r : Result S OutOfMemory)
+    → IsMade v given tasks first → Ran (recorded_acts acts) (recorded_acts does) first (steps_of v lines) last
+    → IfOk r (λ t. view t ≡ record_text (record_of last)) → IfOk r (λ t. IsRightBehindRuns acts does last) → IfOk r (λ t. IsRightlyPlayed acts does v given tasks lines (view t))
+played_so acts does v given tasks lines first last view (Ok t) made ran printed right =
+    record { played = record { first = first; last = last; made = made; ran = ran; printed = printed }; right = right v given tasks first (steps_of v lines) made ran }
+played_so acts does v given tasks lines first last view (Err e) made ran printed right = tt
+
+-- ---- with the handlers of a schedule
+
+pub plain_so : {S : Type 0} (s : Script) (v : Values) (given : List (List Following)) (tasks : List Following) (lines : List Line) (view : S → List ℕ) (r : Result S OutOfMemory)
+    → AreFreshWorkers s v.worker_num v.generation_num given → AreFresh s v.task_worker_num tasks
+    → IfOk r (λ t. IsRightlyPlayed following_acts following_acts v given tasks lines (view t)) → IfOk r (λ t. IsPlain s v lines (view t))
+plain_so s v given tasks lines view (Ok t) workers taskers run = record { given = given; tasks = tasks; workers = workers; taskers = taskers; run = run }
+plain_so s v given tasks lines view (Err e) workers taskers run = tt
+
+pub asked_so : {S : Type 0} (s : Script) (v : Values) (given : List (List (HttpWorker Following))) (tasks : List Following) (lines : List Line) (view : S → List ℕ) (r : Result S OutOfMemory)
+    → AreFreshAskedWorkers s v.package_max_length v.worker_num v.generation_num given → AreFresh s v.task_worker_num tasks
+    → IfOk r (λ t. IsRightlyPlayed (Works following_acts) following_acts v given tasks lines (view t)) → IfOk r (λ t. IsAsked s v lines (view t))
+asked_so s v given tasks lines view (Ok t) workers taskers run = record { given = given; tasks = tasks; workers = workers; taskers = taskers; run = run }
+asked_so s v given tasks lines view (Err e) workers taskers run = tt
