@@ -14,3 +14,4 @@ pub use following::{Following, follower};
 pub use input::{Input, InputRefusal, read_input};
 pub use serving::serve;
 pub use status::ServeStatus;
+pub use writing::{refused, write_out};

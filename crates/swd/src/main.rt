@@ -10,6 +10,8 @@ use std::{env, io};
 use sw_causes::{ReaderSource, Sink, Source, WriterSink};
 use sw_link::Dropper;
 use sw_mio::MioNet;
+use sw_load::Plan;
+use sw_load_run::load;
 use sw_serve::serve;
 use sw_serve_words::{Kind, ServeWords, kind_of};
 use sw_spawn::Threads as EachOnAThread;
@@ -23,7 +25,9 @@ const USAGE: &str = "usage: swd drill     reads a schedule, plays it and prints 
        swd dump      reads a trace and prints the Table that it leaves
        swd restore   reads a dump and prints the trace that puts it into another Table
        swd serve [--port N] [--accept N]
-                     reads settings and rules, and serves on 127.0.0.1";
+                     reads settings and rules, and serves on 127.0.0.1
+       swd load --seed N --connections N --packets N
+                     serves a load in memory and prints what came of it";
 
 /// The exit status of words that are no command.
 const IS_USAGE: u8 = 2;
@@ -73,12 +77,23 @@ fn serve_on<S: Source, K: Sink, R: Threads + Wait + Sockets + Copy + Drop + Send
     serve(rt, alloc, source, sink, net, ends, &mut EachOnAThread {}).number()
 }
 
+/// Serves a load in memory, and answers the number that the program ends with.
+fn serve_load<K: Sink, R: Threads + Wait + Copy + Send + 'static>(
+    rt: R,
+    alloc: Global,
+    plan: Plan,
+    sink: &mut K,
+) -> u8 {
+    load(rt, alloc, plan, sink, &mut EachOnAThread {}).number()
+}
+
 fn main(rt: HostRuntime) -> ExitCode {
     let mut source = ReaderSource::new(rt.reader());
     let mut sink = WriterSink::new(io::writer(&rt));
     let arguments = arguments(&rt).ok();
     let status = match kind(&arguments) {
         Kind::Serve(words) => serve_on(rt, rt.alloc(), words, &mut source, &mut sink),
+        Kind::Load(plan) => serve_load(rt, rt.alloc(), plan, &mut sink),
         _ => command_line(rt.alloc(), arguments, &mut source, &mut sink),
     };
     if status == IS_USAGE {
