@@ -55,7 +55,7 @@ new_core {H} {T} v given tasks front rows book board shelf owners workers tasker
         let k = taskers_are.stand.each n here in
         (k.0, (k.1.0, record { is = k.1.1.is; numbered = k.1.1.numbered; row = k.1.1.row; tells = k.1.1.tells }))
 
-pub ready : {H T : Type 0} (v : Values) (given : List (List H)) (tasks : List T) (front : Front) (rows : Rows) (book : Words) (board : PlainWords) (shelf : PlainTable) (owners : List Owner) (workers : List (CodeHand (Line (Recorded H)))) (taskers : List (CodeHand (Recorded T))) (slots : ℕ) → length given ≡ v.worker_num → length tasks ≡ v.task_worker_num → slots ≡ v.max_conn → 1 ≤ v.reactor_num → v.worker_num + v.task_worker_num + v.reactor_num + 1 ≤ 2 ^ 32 → ReactorsStand (terms_of v) owners (λ n. started) → AreWorkers v given workers → AreTaskers v tasks taskers → Ready {Recorded H} {Recorded T} (terms_of v) (record { front = front; places = rows; book = book; board = board; shelf = shelf; reactors = owners; crew = record { workers = workers; taskers = taskers }; max_conn = slots })
+pub ready : {H T : Type 0} (v : Values) (given : List (List H)) (tasks : List T) (front : Front) (rows : Rows) (book : Words) (board : PlainWords) (shelf : PlainTable) (owners : List Owner) (workers : List (CodeHand (Line (Recorded H)))) (taskers : List (CodeHand (Recorded T))) (slots : ℕ) → length given ≡ v.worker_num → length tasks ≡ v.task_worker_num → slots ≡ v.max_conn → 1 ≤ v.reactor_num → v.worker_num + v.task_worker_num + v.reactor_num + 1 ≤ 2 ^ 32 → ReactorsStand (terms_of v) owners (λ n. started) → AreWorkers v given workers → AreTaskers v tasks taskers → Ready {H = Recorded H} {T = Recorded T} (terms_of v) (record { front = front; places = rows; book = book; board = board; shelf = shelf; reactors = owners; crew = record { workers = workers; taskers = taskers }; max_conn = slots })
 ready {H} {T} v given tasks front rows book board shelf owners workers taskers slots many more slots_are some few owners_are workers_are taskers_are = record {
   slots = slots_are;
   some = some;
