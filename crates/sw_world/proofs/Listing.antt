@@ -1,8 +1,11 @@
 -- Lists whose items are looked at one by one.
-use Rattle.std.proofs.Common.{◌≡◌, ℕ, zero, suc, ◌+◌, List, [], ◌∷◌, length, map, refl, ap, ◌∙◌, sym, arith, Option, Some, None, slice_get}
+use Rattle.std.proofs.Common.{◌≡◌, ℕ, zero, suc, ◌+◌, ◌<◌, List, [], ◌∷◌, ◌++◌, length, map, take, get_or, refl, ap, ◌∙◌, sym, arith, Option, Some, None, slice_get}
+use Rattle.std.proofs.lemmas.List.{append-nil, map-append, take_more}
 use Rattle.sw_lists.specs.Lists.{collect}
+use Rattle.sw_lists.proofs.Lists.{collect-append}
 use Rattle.sw_step.specs.declared.actor.ActorId.{ActorId}
 use Rattle.sw_record.specs.Words.{Log}
+use Rattle.sw_hand_laws.specs.Generations.{entries}
 use Rattle.sw_past.specs.Routes.{crew}
 use Rattle.sw_world_laws.specs.Account.{log_of}
 
@@ -32,6 +35,24 @@ crew_logs kind log tells from [] h zero e = refl
 crew_logs kind log tells from [] h (suc count) e = absurd (cc)
 crew_logs kind log tells from (x ∷ xs) h zero e = absurd (cc)
 crew_logs {A} kind log tells from (x ∷ xs) h (suc count) e =
-    ap (λ (l : Log). l ∷ collect (log_of log) (crew kind (from + 1) count)) (h 0 x refl)
+    ap (λ (k : ℕ). log (kind k) ∷ collect (log_of log) (crew kind (from + 1) count)) (let here : from ≡ 0 + from = omega arith in here)
+    ∙ ap (λ (l : Log). l ∷ collect (log_of log) (crew kind (from + 1) count)) (h 0 x refl)
     ∙ ap (λ (ls : List Log). tells x ∷ ls)
     (crew_logs kind log tells (from + 1) xs (λ n z q. ap (λ (k : ℕ). log (kind k)) (let same : n + (from + 1) ≡ suc n + from = omega arith in same) ∙ h (suc n) z q) count (let less : length xs ≡ count = omega (arith, e) in less))
+
+-- ---- one item more
+
+pub taken_more : {X : Type 0} (xs : List X) (i : ℕ) (x : X) → i < length xs → x ≡ get_or xs i x → take (i + 1) xs ≡ take i xs ++ x ∷ []
+taken_more {X} xs i x lt e = take_more xs i x lt ∙ ap (λ (y : X). take i xs ++ y ∷ []) (sym e)
+
+-- logs that are joined
+pub joined_more : {X : Type 0} (told : X → Log) (xs : List X) (i : ℕ) (x : X) (log new : Log) → i < length xs → x ≡ get_or xs i x → log ≡ collect entries (map told (take i xs)) → new ≡ log ++ told x → new ≡ collect entries (map told (take (i + 1) xs))
+joined_more {X} told xs i x log new lt e so_far more =
+    more
+    ∙ ap (λ (l : Log). l ++ told x) so_far
+    ∙ sym (
+      ap (λ (zs : List X). collect entries (map told zs)) (taken_more xs i x lt e)
+      ∙ ap (collect entries) (map-append told (take i xs) (x ∷ []))
+      ∙ collect-append entries (map told (take i xs)) (told x ∷ [])
+      ∙ ap (λ (l : Log). collect entries (map told (take i xs)) ++ l) (append-nil (told x)),
+    )

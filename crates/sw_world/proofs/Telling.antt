@@ -25,6 +25,7 @@ use Rattle.sw_world_places.specs.Arrived.{Known}
 use Rattle.sw_world_places.specs.declared.arrived.Claimed.{Claimed}
 use Rattle.sw_world_places.specs.declared.arrived.Claimed.TheVariants as claims
 use Rattle.sw_world_reactors.specs.declared.owner.Owner.{Owner}
+use Rattle.sw_world_stands.proofs.Gets.{some_same}
 use Rattle.sw_world_stands.specs.Links.{claims_of, entry, done, wait, LinksStand}
 use Rattle.sw_world_steps.specs.Server.{IsServed, server, AState, of_reactor}
 use Rattle.sw_world_crew.specs.declared.recorded.Recorded.{Recorded}
@@ -39,24 +40,17 @@ use Rattle.sw_world.specs.Right.{IsTold, IsOutside}
 use Rattle.sw_world.proofs.Listing.{map_found, map_shown}
 
 -- the link that is found by a session has it
+session_is : (n : ℕ) (o : Option ℕ) → is_session n o ≡ true → o ≡ Some n
+session_is n None e = absurd (cc)
+session_is n (Some u) e = ap Some (eq_is u n e)
+
+found_by : (n : ℕ) (l : LinkRecord) (ls : List LinkRecord) (k : LinkRecord) (b : Bool) → is_session n (session_of l.state) ≡ b → (if b then Some l else link_in n ls) ≡ Some k → (link_in n ls ≡ Some k → session_of k.state ≡ Some n) → session_of k.state ≡ Some n
+found_by n l ls k true q h rest = ap (λ (x : LinkRecord). session_of x.state) (sym (some_same l k h)) ∙ session_is n (session_of l.state) q
+found_by n l ls k false q h rest = rest h
+
 found_session : (n : ℕ) (ls : List LinkRecord) (k : LinkRecord) → link_in n ls ≡ Some k → session_of k.state ≡ Some n
 found_session n [] k e = absurd (cc)
-found_session n (l ∷ ls) k e = pick (is_session n (session_of l.state)) refl e
-  where
-    by : (o : Option ℕ) → is_session n o ≡ true → o ≡ Some n
-    by None e = absurd (cc)
-    by (Some u) e = ap Some (eq_is u n e)
-
-    same : (a b : LinkRecord) → Some a ≡ Some b → a ≡ b
-    same a b e = ap (λ (o : Option LinkRecord). from o) e
-      where
-        from : Option LinkRecord → LinkRecord
-        from None = a
-        from (Some x) = x
-
-    pick : (b : Bool) → is_session n (session_of l.state) ≡ b → (if b then Some l else link_in n ls) ≡ Some k → session_of k.state ≡ Some n
-    pick true q h = ap (λ (x : LinkRecord). session_of x.state) (sym (same l k h)) ∙ by (session_of l.state) q
-    pick false q h = found_session n ls k h
+found_session n (l ∷ ls) k e = found_by n l ls k (is_session n (session_of l.state)) refl e (λ q. found_session n ls k q)
 
 shown_session : (slots ip n : ℕ) (o : Option LinkRecord) → ((k : LinkRecord) → o ≡ Some k → session_of k.state ≡ Some n) → session_of (found_or slots ip n o).state ≡ Some n
 shown_session slots ip n None h = refl

@@ -1,5 +1,5 @@
 -- The record of the core's code.
-use Rattle.std.specs.Prelude.{◌≡◌, ℕ, List, [], length, map, slice_get, Option, Some, None}
+use Rattle.std.specs.Prelude.{◌≡◌, ℕ, List, [], ◌∷◌, length, map, slice_get, Option, Some, None}
 use Rattle.sw_lists.specs.Lists.{collect}
 use Rattle.sw_record.specs.Words.{Log}
 use Rattle.sw_record.specs.declared.record.LinkRecord.{LinkRecord}
@@ -9,7 +9,7 @@ use Rattle.sw_worker.specs.Generations.{Line}
 use Rattle.sw_hand_laws.specs.Generations.{entries}
 use Rattle.sw_world_account.specs.Kept.{kept_links}
 use Rattle.sw_world_account.specs.declared.kept.Kept.{Kept}
-use Rattle.sw_world_account.specs.Accounting.{record_of as link_record, links_at as kept_at}
+use Rattle.sw_world_account.specs.Accounting.{record_of as link_record, links_of as kept_of}
 use Rattle.sw_world_places.specs.Arrived.{Known}
 use Rattle.sw_world_reactors.specs.declared.owner.Owner.{Owner}
 use Rattle.sw_world_crew.specs.declared.recorded.Recorded.{Recorded}
@@ -25,9 +25,12 @@ links_of (Some o) = kept_links o.reactor.terms o.reactor.line.conns o.ends.kept
 abbrev pub links_at : List Owner → ℕ → List LinkRecord
 links_at owners n = links_of (slice_get owners n)
 
--- what is kept of each reactor is its own
+-- what is kept of each reactor are its own links
 abbrev pub AreKept : List Owner → List Kept → Type 0
-AreKept owners kept = (length kept ≡ length owners) × ((n : ℕ) → kept_at kept n ≡ links_at owners n)
+AreKept [] [] = Unit {0}
+AreKept [] (k ∷ ks) = ⊥
+AreKept (o ∷ os) [] = ⊥
+AreKept (o ∷ os) (k ∷ ks) = (kept_of (Some k) ≡ links_of (Some o)) × AreKept os ks
 
 -- a worker's log: its handlers' logs, one behind the other
 abbrev pub worker_log : {H : Type 0} → CodeHand (Line (Recorded H)) → Log
