@@ -51,8 +51,8 @@ joined_more {X} told xs i x log new lt e so_far more =
     more
     ∙ ap (λ (l : Log). l ++ told x) so_far
     ∙ sym (
-      ap (λ (zs : List X). collect entries (map told zs)) (taken_more xs i x lt e)
-      ∙ ap (collect entries) (map-append told (take i xs) (x ∷ []))
-      ∙ collect-append entries (map told (take i xs)) (told x ∷ [])
-      ∙ ap (λ (l : Log). collect entries (map told (take i xs)) ++ l) (append-nil (told x)),
+    ap (λ (zs : List X). collect entries (map told zs)) (taken_more xs i x lt e)
+    ∙ ap (collect entries) (map-append told (take i xs) (x ∷ []))
+    ∙ collect-append entries (map told (take i xs)) (told x ∷ [])
+    ∙ ap (λ (l : Log). collect entries (map told (take i xs)) ++ l) (append-nil (told x))
     )
