@@ -1,10 +1,11 @@
 -- Runs, one behind the other.
 use Rattle.std.proofs.Common.{◌≡◌, ℕ, zero, suc, ◌+◌, List, [], ◌∷◌, ◌++◌, refl, ap, sym, subst, ◌∙◌, arith}
-use Rattle.std.specs.Prelude.{replicate}
+use Rattle.std.specs.Prelude.{replicate, Result, Ok, Err, OnOk}
 use Rattle.std.proofs.lemmas.Grind.{replicate_next, flat_map-append}
 use Rattle.std.proofs.lemmas.List.{append-nil}
 use Rattle.sw_hand.specs.Ports.{Acting}
 use Rattle.sw_step.specs.declared.actor.ActorId.{ActorId}
+use Rattle.sw_step.specs.declared.actor.ActorId.TheVariants.{Door, Reactor, Worker, Tasker}
 use Rattle.sw_step.specs.declared.step.Step.{Step}
 use Rattle.sw_step.specs.declared.step.Step.TheVariants.{Turn}
 use Rattle.sw_settings.specs.declared.values.Values.{Values}
@@ -21,6 +22,11 @@ none acts does s = refl
 pub one_step : {H T : Type 0} (acts : Acting H) (does : Acting T) (s n : State H T) (x : Step) → Steps acts does s x n → Ran acts does s (x ∷ []) n
 one_step acts does s n x h = (n, (h, refl))
 
+-- where something holds at Ok, what follows from it does
+pub at_ok : {A E : Type 0} (P Q : Type 0) (r : Result A E) → (P → Q) → OnOk r P → OnOk r Q
+at_ok P Q (Ok a) f h = f h
+at_ok P Q (Err e) f h = tt
+
 -- steps behind others
 pub behind : {H T : Type 0} (acts : Acting H) (does : Acting T) (xs ys : List Step) (s m n : State H T) → Ran acts does s xs m → Ran acts does m ys n → Ran acts does s (xs ++ ys) n
 behind {H} {T} acts does [] ys s m n f g = subst (λ (r : State H T). Ran acts does r ys n) f g
@@ -29,6 +35,15 @@ behind acts does (x ∷ xs) ys s m n f g = (f.0, (f.1.0, behind acts does xs ys 
 -- the same, where the steps have another name
 so_behind : {H T : Type 0} (acts : Acting H) (does : Acting T) (xs ys zs : List Step) (s m n : State H T) → xs ++ ys ≡ zs → Ran acts does s xs m → Ran acts does m ys n → Ran acts does s zs n
 so_behind acts does xs ys zs s m n is f g = subst (λ (ws : List Step). Ran acts does s ws n) is (behind acts does xs ys s m n f g)
+
+-- a round: the door, and then all of each kind
+pub whole_round : {H T : Type 0} (acts : Acting H) (does : Acting T) (v : Values) (s d r w t : State H T) → Ran acts does s (Turn Door ∷ []) d → Ran acts does d (each Reactor v.reactor_num) r → Ran acts does r (each Worker v.worker_num) w → Ran acts does w (each Tasker v.task_worker_num) t
+    → Ran acts does s (round v) t
+unfolding round
+whole_round acts does v s d r w t door reactors workers taskers =
+    behind acts does (Turn Door ∷ each Reactor v.reactor_num ++ each Worker v.worker_num) (each Tasker v.task_worker_num) s w t
+        (behind acts does (Turn Door ∷ each Reactor v.reactor_num) (each Worker v.worker_num) s r w
+            (behind acts does (Turn Door ∷ []) (each Reactor v.reactor_num) s d r door reactors) workers) taskers
 
 -- ---- one more
 

@@ -14,7 +14,6 @@ use sw_settings::Settings;
 use sw_step::{ActorId, Step};
 use sw_world::World;
 
-#[tactic(auto, using(crate::proofs::Runs::one_step))]
 fn step<H: Handler + Drop, T: Handler + Drop>(
     world: &mut World<H, T>,
     step: Step,
