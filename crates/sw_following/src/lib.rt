@@ -4,8 +4,8 @@
 
 mod asked;
 mod following;
-mod handlers;
+mod fresh;
 
 pub use asked::{asked_handlers, asked_workers};
 pub use following::Following;
-pub use handlers::{handlers, workers};
+pub use fresh::{handlers, workers};
