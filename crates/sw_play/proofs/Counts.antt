@@ -24,10 +24,10 @@ handled {H} (hs ∷ rest) h =
     rw (some (length hs) (All-head (λ (ks : List H). 0 < length ks) hs rest h)) (handled rest (All-tail (λ (ks : List H). 0 < length ks) hs rest h))
 
 -- a list for each worker, with so many in each, and one for each task worker
-pub enough : {H T : Type 0} (P : H → Type 0) (v : Values) (given : List (List H)) (tasks : List T) (generations : ℕ) → 1 ≤ generations → Many (Many P generations) v.worker_num given → length tasks ≡ v.task_worker_num
+pub enough : {H T : Type 0} (P : H → Type 0) (v : Values) (given : List (List H)) (tasks : List T) (w k generations : ℕ) → w ≡ v.worker_num → k ≡ v.task_worker_num → 1 ≤ generations → Many (Many P generations) w given → length tasks ≡ k
     → count_fault v given (length tasks) ≡ None
-enough {H} {T} P v given tasks generations least lists counts =
+enough {H} {T} P v given tasks w k generations ew ek least lists counts =
     let each : All (λ (hs : List H). 0 < length hs) given = All-weaker (Many P generations) (λ (hs : List H). 0 < length hs) (λ hs many. omega (arith, many.0, least)) given lists.1 in
-    equal Workers v.worker_num (length given) (or_next Taskers v.task_worker_num (length tasks) (unhandled given)) lists.0
-    ∙ equal Taskers v.task_worker_num (length tasks) (unhandled given) counts
+    equal Workers v.worker_num (length given) (or_next Taskers v.task_worker_num (length tasks) (unhandled given)) (lists.0 ∙ ew)
+    ∙ equal Taskers v.task_worker_num (length tasks) (unhandled given) (counts ∙ ek)
     ∙ handled given each

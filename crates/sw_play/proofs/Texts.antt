@@ -1,5 +1,5 @@
 -- What is printed is the text of a right record.
-use Rattle.std.proofs.Common.{◌≡◌, ℕ, List, Bool, true, false, Option, Some, None, Result, Ok, Err, refl}
+use Rattle.std.proofs.Common.{◌≡◌, ℕ, List, Bool, true, false, Option, Some, None, Result, Ok, Err, refl, subst}
 use Rattle.std.specs.Prelude.{IfOk}
 use Rattle.sw_base.specs.declared.out_of_memory.OutOfMemory.{OutOfMemory}
 use Rattle.sw_answer.specs.declared.refusal.Refusal.{Refusal}
@@ -25,7 +25,7 @@ use Rattle.sw_following.specs.Asked.{AreFreshAskedWorkers}
 use Rattle.sw_hand.specs.Ports.{Acting}
 use Rattle.sw_play.specs.Steps.{steps_of}
 use Rattle.sw_play.specs.Played.{IsRightlyPlayed}
-use Rattle.sw_play.specs.Drilled.{IsPlain, IsAsked, IsRunBy}
+use Rattle.sw_play.specs.Drilled.{IsPlain, IsAsked, IsRun, IsRunBy}
 use Rattle.sw_play.specs.Answers.{AnswersBy, Answers}
 use Rattle.sw_play.specs.Rightly.{IsOfRight, IsOfRightBy, IsRightText, PrintsRight}
 
@@ -59,16 +59,37 @@ played_so acts does v given tasks lines first last view (Ok t) made ran printed 
     record { played = record { first = first; last = last; made = made; ran = ran; printed = printed }; right = right v given tasks first (steps_of v lines) made ran }
 played_so acts does v given tasks lines first last view (Err e) made ran printed right = tt
 
--- ---- with the handlers of a schedule
+-- ---- with the handlers of a schedule, whose numbers are those of the settings
 
-pub plain_so : {S : Type 0} (s : Script) (v : Values) (given : List (List Following)) (tasks : List Following) (lines : List Line) (view : S → List ℕ) (r : Result S OutOfMemory)
-    → AreFreshWorkers s v.worker_num v.generation_num given → AreFresh s v.task_worker_num tasks
+pub plain_so : {S : Type 0} (s : Script) (v : Values) (given : List (List Following)) (tasks : List Following) (lines : List Line) (view : S → List ℕ) (r : Result S OutOfMemory) (w k generations : ℕ) → w ≡ v.worker_num → k ≡ v.task_worker_num → generations ≡ v.generation_num
+    → AreFreshWorkers s w generations given → AreFresh s k tasks
     → IfOk r (λ t. IsRightlyPlayed following_acts following_acts v given tasks lines (view t)) → IfOk r (λ t. IsPlain s v lines (view t))
-plain_so s v given tasks lines view (Ok t) workers taskers run = record { given = given; tasks = tasks; workers = workers; taskers = taskers; run = run }
-plain_so s v given tasks lines view (Err e) workers taskers run = tt
+plain_so s v given tasks lines view (Ok t) w k generations ew ek eg workers taskers run =
+    record {
+      given = given;
+      tasks = tasks;
+      workers = subst (λ (n : ℕ). AreFreshWorkers s n v.generation_num given) ew (subst (λ (n : ℕ). AreFreshWorkers s w n given) eg workers);
+      taskers = subst (λ (n : ℕ). AreFresh s n tasks) ek taskers;
+      run = run;
+    }
+plain_so s v given tasks lines view (Err e) w k generations ew ek eg workers taskers run = tt
 
-pub asked_so : {S : Type 0} (s : Script) (v : Values) (given : List (List (HttpWorker Following))) (tasks : List Following) (lines : List Line) (view : S → List ℕ) (r : Result S OutOfMemory)
-    → AreFreshAskedWorkers s v.package_max_length v.worker_num v.generation_num given → AreFresh s v.task_worker_num tasks
+pub asked_so : {S : Type 0} (s : Script) (v : Values) (given : List (List (HttpWorker Following))) (tasks : List Following) (lines : List Line) (view : S → List ℕ) (r : Result S OutOfMemory) (max w k generations : ℕ) → max ≡ v.package_max_length → w ≡ v.worker_num → k ≡ v.task_worker_num → generations ≡ v.generation_num
+    → AreFreshAskedWorkers s max w generations given → AreFresh s k tasks
     → IfOk r (λ t. IsRightlyPlayed (Works following_acts) following_acts v given tasks lines (view t)) → IfOk r (λ t. IsAsked s v lines (view t))
-asked_so s v given tasks lines view (Ok t) workers taskers run = record { given = given; tasks = tasks; workers = workers; taskers = taskers; run = run }
-asked_so s v given tasks lines view (Err e) workers taskers run = tt
+asked_so s v given tasks lines view (Ok t) max w k generations em ew ek eg workers taskers run =
+    record {
+      given = given;
+      tasks = tasks;
+      workers =
+        subst (λ (n : ℕ). AreFreshAskedWorkers s n v.worker_num v.generation_num given) em
+            (subst (λ (n : ℕ). AreFreshAskedWorkers s max n v.generation_num given) ew (subst (λ (n : ℕ). AreFreshAskedWorkers s max w n given) eg workers));
+      taskers = subst (λ (n : ℕ). AreFresh s n tasks) ek taskers;
+      run = run;
+    }
+asked_so s v given tasks lines view (Err e) max w k generations em ew ek eg workers taskers run = tt
+
+-- whole requests are asked for or not
+pub run_so : {S : Type 0} (b : Bool) (s : Script) (v : Values) (lines : List Line) (view : S → List ℕ) (r : Result S OutOfMemory) → b ≡ v.open_http_protocol → IfOk r (λ t. IsRunBy b s v lines (view t)) → IfOk r (λ t. IsRun s v lines (view t))
+run_so b s v lines view (Ok t) is run = subst (λ (c : Bool). IsRunBy c s v lines (view t)) is run
+run_so b s v lines view (Err e) is run = tt
