@@ -4,9 +4,13 @@ use super::*;
 use std::alloc::Global;
 use std::test::Fail;
 use std::thread;
+use sw_causes::MemorySink;
+use sw_load::Plan;
+use sw_load_run::load;
 use sw_mio::MioNet;
 use sw_settings::Settings;
 use sw_settings_json::from_json;
+use sw_spawn::{Threads, Turns};
 
 fn settings(alloc: Global, text: &[u8]) -> Option<Settings> {
     from_json(alloc, text).ok()
@@ -89,5 +93,29 @@ fn who_misbehaves_ends_by_a_cause_and_nobody_else_does(rt: HostRuntime) -> Resul
     assert!(rt; tally.overflown == 1);
     assert!(rt; tally.failed == 1);
     assert!(rt; tally.others == 0);
+    Ok(())
+}
+
+#[test]
+fn a_load_of_one_packet_is_summed_up(rt: HostRuntime) -> Result<(), Fail> {
+    let alloc = rt.alloc();
+    let plan = Plan::of(0, 1, 1).expect(&rt, "a plan");
+    let mut sink = MemorySink::new(alloc, Vec::new(alloc));
+    let status = load(rt, alloc, plan, &mut sink, &mut Turns::new(1_000, None));
+    assert!(rt; status.number() == 0);
+    assert!(rt; sink.bytes() == b"load 0 1 1\npackets 1\nbytes 5\nrows 1\nfaults 0\n".as_slice());
+    Ok(())
+}
+
+#[test]
+fn a_load_of_many_is_summed_up(rt: HostRuntime) -> Result<(), Fail> {
+    let alloc = rt.alloc();
+    let plan = Plan::of(7, 64, 20).expect(&rt, "a plan");
+    let mut sink = MemorySink::new(alloc, Vec::new(alloc));
+    let status = load(rt, alloc, plan, &mut sink, &mut Threads {});
+    assert!(rt; status.number() == 0);
+    assert!(rt;
+        sink.bytes() == b"load 7 64 20\npackets 1280\nbytes 26240\nrows 83\nfaults 0\n".as_slice()
+    );
     Ok(())
 }
