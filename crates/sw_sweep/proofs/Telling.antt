@@ -21,6 +21,10 @@ pub mapped_more : {X Y Z : Type 0} (f : X → Z) (h : Y → Z) (xs xs' : List X)
 mapped_more f h xs xs' x ys y e same was =
     ap (map f) e ∙ map-append f xs (x ∷ []) ∙ ap (λ l. l ++ f x ∷ []) was ∙ ap (λ z. map h ys ++ z ∷ []) same ∙ sym (map-append h ys (y ∷ []))
 
+-- all of them, once the others are the same
+pub mapped_all : {X Y Z : Type 0} (f : X → Z) (h : Y → Z) (xs : List X) (ys zs : List Y) → map f xs ≡ map h ys → ys ≡ zs → map f xs ≡ map h zs
+mapped_all f h xs ys zs was same = was ∙ ap (map h) same
+
 abbrev head_or : {Z : Type 0} → Z → List Z → Z
 head_or z [] = z
 head_or z (w ∷ ws) = w

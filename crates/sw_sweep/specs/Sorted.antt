@@ -11,6 +11,10 @@ use Rattle.sw_port_board.specs.declared.crew.Sizes.{Sizes}
 use Rattle.sw_sessions.specs.Values.{TicketNow}
 use Rattle.sw_sweep.specs.declared.crew.Crew.{Crew}
 
+-- a reactor that is ready, of a server with so many session words and such a board
+abbrev pub IsAtReactor : {J E L : Type 0} → ℕ → Sizes → Reacting L J E → Type 0
+IsAtReactor words sizes r = IsReactor (λ (t : TicketNow). t.number) words sizes r.reactor
+
 module _ {N J E H T L : Type 0} where
   abbrev pub doors_in : List (Actor N J E H T L) → List (AtDoor N J E L)
   doors_in [] = []
@@ -39,10 +43,6 @@ module _ {N J E H T L : Type 0} where
   taskers_in (Reactor p ∷ ps) = taskers_in ps
   taskers_in (Worker p ∷ ps) = taskers_in ps
   taskers_in (Tasker p ∷ ps) = p ∷ taskers_in ps
-
-  -- a reactor that is ready, of a server with so many session words and such a board
-  abbrev pub IsAtReactor : ℕ → Sizes → Reacting L J E → Type 0
-  IsAtReactor words sizes r = IsReactor (λ (t : TicketNow). t.number) words sizes r.reactor
 
   -- a door more
   abbrev pub DoorMore : AtDoor N J E L → Crew N J E H T L → Crew N J E H T L → Type 0

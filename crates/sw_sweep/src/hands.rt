@@ -50,7 +50,7 @@ fn end_tasker<L: Drop, J: Naming, T: Handler + Drop>(
 }
 
 /// The handlers of all workers, in their order, and whether none of these found no memory.
-#[tactic(auto, using(crate::proofs::Telling::mapped_more))]
+#[tactic(auto, using(crate::proofs::Telling::mapped_more, crate::proofs::Telling::mapped_all))]
 pub fn end_workers<L: Drop, J: Naming, H: Handler + Drop>(
     alloc: Global,
     workers: Vec<Working<L, J, H>>,
@@ -69,7 +69,7 @@ pub fn end_workers<L: Drop, J: Naming, H: Handler + Drop>(
 }
 
 /// The handlers of all task workers, in their order, and whether none of these found no memory.
-#[tactic(auto, using(crate::proofs::Telling::mapped_more))]
+#[tactic(auto, using(crate::proofs::Telling::mapped_more, crate::proofs::Telling::mapped_all))]
 pub fn end_taskers<L: Drop, J: Naming, T: Handler + Drop>(
     alloc: Global,
     taskers: Vec<Tasking<L, J, T>>,
