@@ -1,1 +1,4 @@
 pub mod Standing
+pub mod Run
+pub mod Account
+pub mod Right

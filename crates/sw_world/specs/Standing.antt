@@ -8,7 +8,7 @@ use Rattle.sw_world_steps.specs.Server.{IsServed, AState}
 use Rattle.sw_world_crew.specs.Recorded.{log_of}
 use Rattle.sw_world_crew.specs.declared.recorded.Recorded.{Recorded}
 use Rattle.sw_world_laws.specs.Runs.{IsServer}
-use Rattle.sw_world_whole.specs.Whole.{Stands, RecordHolds}
+use Rattle.sw_world_whole.specs.Whole.{Stands}
 use Rattle.sw_world_state.specs.declared.state.State.{State}
 use Rattle.sw_world_state.specs.State.{parts_of, views}
 use Rattle.sw_world_goes.specs.Ready.{Ready}
@@ -31,8 +31,3 @@ pub record Standing {H T : Type 0} (s : State (Recorded H) (Recorded T)) : Type 
   pub core : Core AState
   pub stands : Stands terms served crews shape (views log_of log_of) (parts_of s) core
   pub ready : Ready terms s
-
--- the record of that core is right, and drained once all actors are finished
-pub record IsRight {H T : Type 0} (s : State (Recorded H) (Recorded T)) : Type 0 where
-  pub standing : Standing s
-  pub holds : RecordHolds standing.terms standing.served standing.crews standing.shape standing.core

@@ -2,6 +2,10 @@
 //! says which actor goes next and what comes from outside.
 #![tactic(auto)]
 
+mod accounting;
+mod laws;
 mod world;
 
+pub use laws::runs_are_right;
+pub use sw_world_make::{Part, WorldFault};
 pub use world::World;

@@ -1,4 +1,4 @@
-use Rattle.sw_world.proofs.Keeps.{standing_may, standing_goes, standing_right}
+use Rattle.sw_world.proofs.Running.{standing_may, standing_goes}
 use Rattle.sw_world.proofs.world.World.step.Goals as goal
 
 -- a step may be made
@@ -8,6 +8,3 @@ step-requires g c = standing_may c.self.inside.state (c.self.invariant c.if-self
 -- and the code stands for a core again
 pub invariant_of-self-2 : goal.invariant_of-self-2
 invariant_of-self-2 g c = λ _. standing_goes g.H.Handler.acts g.T.Handler.acts c.self.inside.state c.step.new.self c.args.step (c.self.invariant c.if-self.false) c.in_ok-step.ensures
-
-pub returns-clause-right : goal.returns-clause-right
-returns-clause-right g c = standing_right c.step.new.self (standing_goes g.H.Handler.acts g.T.Handler.acts c.self.inside.state c.step.new.self c.args.step (c.self.invariant c.if-self.false) c.in_ok-step.ensures)

@@ -1,0 +1,4 @@
+pub mod Terms
+pub mod Handlers
+pub mod Faults
+pub mod Made
