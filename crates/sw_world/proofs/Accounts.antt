@@ -98,3 +98,11 @@ module _ {H T : Type 0} (t : Terms) (served : IsServed t) (crews : Crews) (shape
       ap (λ (ls : List LinkRecord). record { links = ls; workers = collect (log_listed (λ y. (server t served crews).log (c.states y))) (crew Worker 0 t.worker_num); taskers = collect (log_listed (λ y. (server t served crews).log (c.states y))) (crew Tasker 0 t.tasker_num) }) (sym all_links)
       ∙ ap (λ (ls : List Log). record { links = map (link_of_code s) s.front.links.all; workers = ls; taskers = collect (log_listed (λ y. (server t served crews).log (c.states y))) (crew Tasker 0 t.tasker_num) }) all_workers
       ∙ ap (λ (ls : List Log). record { links = map (link_of_code s) s.front.links.all; workers = map worker_log s.crew.workers; taskers = ls }) all_taskers
+
+-- what was made part by part is the record of the code
+pub record_listed : {H T : Type 0} (s : State (Recorded H) (Recorded T)) (links : List LinkRecord) (workers taskers : List Log) (arrived : List Known) (owners : List Owner) (hs : List (CodeHand (Line (Recorded H)))) (ks : List (CodeHand (Recorded T))) → links ≡ map (link_record s.max_conn (length owners) (links_at owners)) arrived → owners ≡ s.reactors → arrived ≡ s.front.links.all → workers ≡ map worker_log hs → hs ≡ s.crew.workers → taskers ≡ map tasker_log ks → ks ≡ s.crew.taskers → record { links = links; workers = workers; taskers = taskers } ≡ record_of s
+record_listed s links workers taskers arrived owners hs ks el eo ea ew eh et ek =
+    let all : links ≡ map (link_of_code s) s.front.links.all = el ∙ ap (λ (os : List Owner). map (link_record s.max_conn (length os) (links_at os)) arrived) eo ∙ ap (map (link_of_code s)) ea in
+    ap (λ (ls : List LinkRecord). record { links = ls; workers = workers; taskers = taskers }) all
+    ∙ ap (λ (ls : List Log). record { links = map (link_of_code s) s.front.links.all; workers = ls; taskers = taskers }) (ew ∙ ap (map worker_log) eh)
+    ∙ ap (λ (ls : List Log). record { links = map (link_of_code s) s.front.links.all; workers = map worker_log s.crew.workers; taskers = ls }) (et ∙ ap (map tasker_log) ek)

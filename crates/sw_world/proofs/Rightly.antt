@@ -1,5 +1,6 @@
 -- The record of code that steps lead to from code that was made is right.
-use Rattle.std.proofs.Common.{◌≡◌, ℕ, true, List, ap, subst, Some, slice_get}
+use Rattle.std.proofs.Common.{◌≡◌, ℕ, true, List, ap, subst, Some, slice_get, Result, Ok, Err}
+use Rattle.std.specs.Prelude.{IfOk}
 use Rattle.sw_step.specs.declared.actor.ActorId.{ActorId}
 use Rattle.sw_step.specs.declared.step.Step.{Step}
 use Rattle.sw_hand.specs.Ports.{Acting}
@@ -51,3 +52,8 @@ pub right_behind_runs : {H T : Type 0} (acts : Acting H) (does : Acting T) (s : 
 right_behind_runs acts does s v given tasks first steps m ran =
     let k = ran_stands acts does (terms_of v) m.served (crews_of v given) (shape_of v) steps first s (start (terms_of v) (server (terms_of v) m.served (crews_of v given))) (made_stands v given tasks first m) m.ready ran in
     standing_right (terms_of v) m.server m.served (crews_of v given) (shape_of v) s k.0 k.1.0 k.1.1
+
+-- what holds in any case holds of each answer
+pub whatever : {A E : Type 0} (P : Type 0) → P → (r : Result A E) → IfOk r (λ x. P)
+whatever P p (Ok x) = p
+whatever P p (Err e) = tt
