@@ -42,8 +42,8 @@ pub whole_round : {H T : Type 0} (acts : Acting H) (does : Acting T) (v : Values
 unfolding round
 whole_round acts does v s d r w t door reactors workers taskers =
     behind acts does (Turn Door ∷ each Reactor v.reactor_num ++ each Worker v.worker_num) (each Tasker v.task_worker_num) s w t
-        (behind acts does (Turn Door ∷ each Reactor v.reactor_num) (each Worker v.worker_num) s r w
-            (behind acts does (Turn Door ∷ []) (each Reactor v.reactor_num) s d r door reactors) workers) taskers
+    (behind acts does (Turn Door ∷ each Reactor v.reactor_num) (each Worker v.worker_num) s r w
+    (behind acts does (Turn Door ∷ []) (each Reactor v.reactor_num) s d r door reactors) workers) taskers
 
 -- ---- one more
 

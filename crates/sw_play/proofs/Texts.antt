@@ -82,8 +82,8 @@ asked_so s v given tasks lines view (Ok t) max w k generations em ew ek eg worke
       given = given;
       tasks = tasks;
       workers =
-        subst (λ (n : ℕ). AreFreshAskedWorkers s n v.worker_num v.generation_num given) em
-            (subst (λ (n : ℕ). AreFreshAskedWorkers s max n v.generation_num given) ew (subst (λ (n : ℕ). AreFreshAskedWorkers s max w n given) eg workers));
+          subst (λ (n : ℕ). AreFreshAskedWorkers s n v.worker_num v.generation_num given) em
+          (subst (λ (n : ℕ). AreFreshAskedWorkers s max n v.generation_num given) ew (subst (λ (n : ℕ). AreFreshAskedWorkers s max w n given) eg workers));
       taskers = subst (λ (n : ℕ). AreFresh s n tasks) ek taskers;
       run = run;
     }
