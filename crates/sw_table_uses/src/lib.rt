@@ -6,6 +6,7 @@ mod copying;
 mod opening;
 mod player;
 mod runs;
+mod sharing;
 mod telling;
 #[cfg(test)]
 mod tests;
@@ -14,4 +15,5 @@ pub use copying::copied;
 pub use opening::opened;
 pub use player::{Played, Player, ask, play};
 pub use runs::{Outcome, new_players, run};
+pub use sharing::table_is_shared;
 pub use telling::{in_turn, tell};

@@ -6,6 +6,7 @@ ghost use Rattle.sw_table_uses.specs.Players.{IsPlayer, IsPlayed, FitsColumns};
 
 use crate::opening::opened;
 use crate::player::{Played, Player, play};
+use crate::sharing::table_is_shared;
 use std::alloc::Global;
 use std::sync::Wait;
 use std::thread::{Threads, map_vec};
@@ -160,6 +161,7 @@ fn played<R: Threads + Wait + Sync>(
     requires { All (IsPlayer table.now) players.items }
     ensures { IfOk result (λ v. All (IsPlayed table.now) v.items) }
 {
+    table_is_shared();
     let results = map_vec(
         rt,
         players,
