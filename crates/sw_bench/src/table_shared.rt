@@ -17,7 +17,7 @@ use std::time::Instant;
 use sw_base::Call;
 use sw_column::RowBuf;
 use sw_table::{Seat, Table};
-use sw_table_uses::{Player, ask};
+use sw_table_uses::{Player, ask, table_is_shared};
 
 /// How often each thread makes the calls of its list.
 const TIMES: u64 = 300_000;
@@ -63,6 +63,7 @@ fn play<R: Threads + Wait + Sync>(
 ) -> Result<Vec<u64>, AllocError>
     requires { All (IsPlayer table.now) players.items }
 {
+    table_is_shared();
     map_vec(
         rt,
         players,
