@@ -37,6 +37,7 @@ pub fn in_turn<R: Wait>(
     requires row { HasKinds table.now.columns row.old }
     ensures first { IsReady table.now 1 first.new }
     ensures second { IsReady table.now 1 second.new }
+    ensures row { HasKinds table.now.columns row.new }
     ensures order { IfOk result (λ places. places.0 < places.1) }
 {
     let before = match ask(rt, table, first, call, row) {
