@@ -1,23 +1,23 @@
-//! The command `drill`: a schedule is played.
+//! The command `drill`: a text is read, its settings are made, and its lines are played.
 
-ghost use Rattle.std.specs.Prelude.{◌≡◌, Ok, IfOk, string_bytes};
-ghost use Rattle.sw_play.specs.Faults.{IsMade, IsSettled};
+ghost use Rattle.std.specs.Prelude.{IfOk, string_bytes};
 ghost use Rattle.sw_answer.specs.Seen.{text_seen};
-ghost use Rattle.sw_play.specs.Run.{answer_of, answered};
+ghost use Rattle.sw_play.specs.Answers.{IsSettled, AnswersFor, Answers};
+ghost use Rattle.sw_play.specs.Rightly.{PrintsRight};
 
-use crate::playing::played;
+use crate::handling::played;
 use std::alloc::Global;
 use sw_answer::{Refusal, is_memory};
 use sw_base::OutOfMemory;
-use sw_drill::{Drill, read};
+use sw_schedule::{Schedule, read};
 use sw_set_lines::Pairs;
-use sw_settings::{Pair, Settings, SettingsFault, core_fault, from_pairs};
+use sw_settings::{Settings, SettingsFault, from_pairs};
 
 /// The settings that the pairs are, or why they are none.
-fn made(alloc: Global, pairs: Vec<Pair>) -> Result<Result<Settings, SettingsFault>, OutOfMemory>
-    ensures { IfOk result (IsMade pairs.items) }
+fn settled(alloc: Global, pairs: Pairs) -> Result<Result<Settings, SettingsFault>, OutOfMemory>
+    ensures { IfOk result (IsSettled pairs) }
 {
-    match from_pairs(alloc, pairs) {
+    match from_pairs(alloc, pairs.into_vec()) {
         Ok(settings) => Ok(Ok(settings)),
         Err(fault) => {
             if is_memory(&fault) {
@@ -28,36 +28,27 @@ fn made(alloc: Global, pairs: Vec<Pair>) -> Result<Result<Settings, SettingsFaul
     }
 }
 
-/// The same, where a key that the core doesn't know so far is refused first.
-fn settled(alloc: Global, pairs: Pairs) -> Result<Result<Settings, SettingsFault>, OutOfMemory>
-    ensures { IfOk result (IsSettled pairs) }
+/// What is written for a schedule, or why it isn't played.
+fn answered(alloc: Global, schedule: Schedule) -> Result<Result<String, Refusal>, OutOfMemory>
+    ensures { IfOk result (λ r. AnswersFor schedule (text_seen string_bytes r)) }
 {
-    let pairs = pairs.into_vec();
-    match core_fault(alloc, &pairs)? {
-        Some(fault) => Ok(Err(fault)),
-        None => made(alloc, pairs),
-    }
-}
-
-/// What is written for a drill, or why it isn't played.
-fn answered(alloc: Global, drill: Drill) -> Result<Result<String, Refusal>, OutOfMemory>
-    ensures { IfOk result (λ r. text_seen string_bytes r ≡ answered (Ok drill)) }
-{
-    match settled(alloc, drill.pairs)? {
+    match settled(alloc, schedule.pairs)? {
         Err(fault) => Ok(Err(Refusal::Settings(fault))),
         Ok(settings) => {
-            let text = played(alloc, &settings, drill.lines)?;
+            let text = played(alloc, &settings, &schedule.script, schedule.lines)?;
             Ok(Ok(text))
         }
     }
 }
 
-/// What is written for a schedule, or why it is refused.
+/// What is written for the text of a schedule, or why it is refused: for the first line that isn't in the grammar, and else for the
+/// first fault of its settings. The record that is printed is right.
 pub fn drilled(alloc: Global, input: &[u8]) -> Result<Result<String, Refusal>, OutOfMemory>
-    ensures { IfOk result (λ r. text_seen string_bytes r ≡ answer_of input.now) }
+    ensures answers { IfOk result (λ r. Answers input.now (text_seen string_bytes r)) }
+    ensures right { IfOk result (λ r. PrintsRight input.now (text_seen string_bytes r)) }
 {
     match read(alloc, input)? {
         Err(n) => Ok(Err(Refusal::Line(n))),
-        Ok(drill) => answered(alloc, drill),
+        Ok(schedule) => answered(alloc, schedule),
     }
 }
