@@ -1,8 +1,9 @@
 -- As many handlers as the settings ask for are refused by no core.
-use Rattle.std.proofs.Common.{◌≡◌, ◌∙◌, ℕ, zero, suc, ◌<◌, ◌≤◌, ◌==◌, Bool, true, false, if◌then◌else◌, List, [], ◌∷◌, length, Option, Some, None, refl, sym, subst, arith}
+use Rattle.std.proofs.Common.{◌≡◌, ◌∙◌, ℕ, ◌<◌, ◌≤◌, ◌==◌, Bool, true, false, if◌then◌else◌, List, [], ◌∷◌, length, Option, Some, None, refl, sym, subst, arith}
 use Rattle.std.specs.List.{All}
 use Rattle.std.proofs.lemmas.Bool.{eq-eqb}
 use Rattle.std.proofs.lemmas.List.Elements.{All-head, All-tail, All-weaker}
+use Rattle.sw_lists.proofs.Lists.{eq_other}
 use Rattle.sw_settings.specs.declared.values.Values.{Values}
 use Rattle.sw_world_make.specs.declared.fault.Part.{Part}
 use Rattle.sw_world_make.specs.declared.fault.Part.TheVariants.{Workers, Taskers, Generations}
@@ -15,8 +16,7 @@ equal : (part : Part) (need given : ℕ) (next : Option WorldFault) → given �
 equal part need given next e = rw (eq-eqb given need e) refl
 
 some : (n : ℕ) → 0 < n → (n == 0) ≡ false
-some zero h = absurd (omega (arith, h))
-some (suc n) h = refl
+some n h = eq_other n 0 (λ e. omega (arith, h, e))
 
 handled : {H : Type 0} (given : List (List H)) → All (λ (hs : List H). 0 < length hs) given → unhandled given ≡ None
 handled [] h = refl

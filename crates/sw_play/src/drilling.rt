@@ -32,10 +32,11 @@ fn settled(alloc: Global, pairs: Pairs) -> Result<Result<Settings, SettingsFault
 fn answered(alloc: Global, schedule: Schedule) -> Result<Result<String, Refusal>, OutOfMemory>
     ensures { IfOk result (λ r. AnswersFor schedule (text_seen string_bytes r)) }
 {
+    let lines = schedule.lines;
     match settled(alloc, schedule.pairs)? {
         Err(fault) => Ok(Err(Refusal::Settings(fault))),
         Ok(settings) => {
-            let text = played(alloc, &settings, &schedule.script, schedule.lines)?;
+            let text = played(alloc, &settings, &schedule.script, lines)?;
             Ok(Ok(text))
         }
     }

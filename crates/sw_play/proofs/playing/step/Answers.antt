@@ -9,5 +9,5 @@ pub returns : goal.returns
 returns g c =
     let acts = recorded_acts g.H.Handler.acts in
     let does = recorded_acts g.T.Handler.acts in
-    at_ok (Steps acts does c.args.world.now.state c.args.step c.step.new.world.state) (Ran acts does c.args.world.now.state (c.args.step ∷ []) c.step.new.world.state) c.step.result
-    (one_step acts does c.args.world.now.state c.step.new.world.state c.args.step) c.step.ensures.ok
+    at_ok (Steps acts does c.args.world.now.state c.args.step c.step.new.self.state) (Ran acts does c.args.world.now.state (c.args.step ∷ []) c.step.new.self.state) c.step.result
+    (one_step acts does c.args.world.now.state c.step.new.self.state c.args.step) c.step.ensures.ok
