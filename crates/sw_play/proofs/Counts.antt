@@ -1,5 +1,5 @@
 -- As many handlers as the settings ask for are refused by no core.
-use Rattle.std.proofs.Common.{◌≡◌, ◌∙◌, ℕ, ◌<◌, ◌≤◌, ◌==◌, Bool, true, false, if◌then◌else◌, List, [], ◌∷◌, length, Option, Some, None, refl, sym, subst, arith}
+use Rattle.std.proofs.Common.{◌≡◌, ◌∙◌, ℕ, zero, suc, ◌<◌, ◌≤◌, ◌==◌, Bool, true, false, if◌then◌else◌, List, [], ◌∷◌, length, Option, Some, None, refl, sym, subst, arith}
 use Rattle.std.specs.List.{All}
 use Rattle.std.proofs.lemmas.Bool.{eq-eqb}
 use Rattle.std.proofs.lemmas.List.Elements.{All-head, All-tail, All-weaker}
@@ -16,7 +16,7 @@ equal : (part : Part) (need given : ℕ) (next : Option WorldFault) → given �
 equal part need given next e = rw (eq-eqb given need e) refl
 
 some : (n : ℕ) → 0 < n → (n == 0) ≡ false
-some n h = eq_other n 0 (λ e. omega (arith, h, e))
+some n h = eq_other n 0 (λ e. omega (arith, e, h))
 
 handled : {H : Type 0} (given : List (List H)) → All (λ (hs : List H). 0 < length hs) given → unhandled given ≡ None
 handled [] h = refl

@@ -37,15 +37,23 @@ so_behind : {H T : Type 0} (acts : Acting H) (does : Acting T) (xs ys zs : List 
 so_behind acts does xs ys zs s m n is f g = subst (λ (ws : List Step). Ran acts does s ws n) is (behind acts does xs ys s m n f g)
 
 -- a round: the door, and then all of each kind
-pub whole_round : {H T : Type 0} (acts : Acting H) (does : Acting T) (v : Values) (reactors workers taskers : ℕ) → reactors ≡ v.reactor_num → workers ≡ v.worker_num → taskers ≡ v.task_worker_num → (s d r w t : State H T) → Ran acts does s (Turn Door ∷ []) d → Ran acts does d (each Reactor reactors) r → Ran acts does r (each Worker workers) w → Ran acts does w (each Tasker taskers) t
+all_round : {H T : Type 0} (acts : Acting H) (does : Acting T) (v : Values) (s d r w t : State H T) → Ran acts does s (Turn Door ∷ []) d → Ran acts does d (each Reactor v.reactor_num) r → Ran acts does r (each Worker v.worker_num) w → Ran acts does w (each Tasker v.task_worker_num) t
     → Ran acts does s (round v) t
 unfolding round
-whole_round acts does v reactors workers taskers er ew et s d r w t first second third fourth =
+all_round acts does v s d r w t door reactors workers taskers =
     behind acts does (Turn Door ∷ each Reactor v.reactor_num ++ each Worker v.worker_num) (each Tasker v.task_worker_num) s w t
     (behind acts does (Turn Door ∷ each Reactor v.reactor_num) (each Worker v.worker_num) s r w
-    (behind acts does (Turn Door ∷ []) (each Reactor v.reactor_num) s d r first (subst (λ (n : ℕ). Ran acts does d (each Reactor n) r) er second))
-    (subst (λ (n : ℕ). Ran acts does r (each Worker n) w) ew third))
-    (subst (λ (n : ℕ). Ran acts does w (each Tasker n) t) et fourth)
+    (behind acts does (Turn Door ∷ []) (each Reactor v.reactor_num) s d r door reactors) workers) taskers
+
+-- as many of a kind, under another name
+so_many : {H T : Type 0} (acts : Acting H) (does : Acting T) (kind : ℕ → ActorId) (s n : State H T) (k m : ℕ) → k ≡ m → Ran acts does s (each kind k) n → Ran acts does s (each kind m) n
+so_many acts does kind s n k m is f = subst (λ (x : ℕ). Ran acts does s (each kind x) n) is f
+
+-- the same, where the numbers are those of the settings
+pub whole_round : {H T : Type 0} (acts : Acting H) (does : Acting T) (v : Values) (s d r w t : State H T) (i j k : ℕ) → i ≡ v.reactor_num → j ≡ v.worker_num → k ≡ v.task_worker_num → Ran acts does s (Turn Door ∷ []) d → Ran acts does d (each Reactor i) r → Ran acts does r (each Worker j) w → Ran acts does w (each Tasker k) t
+    → Ran acts does s (round v) t
+whole_round acts does v s d r w t i j k ei ej ek door reactors workers taskers =
+    all_round acts does v s d r w t door (so_many acts does Reactor d r i v.reactor_num ei reactors) (so_many acts does Worker r w j v.worker_num ej workers) (so_many acts does Tasker w t k v.task_worker_num ek taskers)
 
 -- ---- one more
 

@@ -16,6 +16,9 @@ use Rattle.sw_http_worker.specs.Worker.{Works}
 use Rattle.sw_script.specs.declared.script.Script.{Script}
 use Rattle.sw_settings.specs.declared.values.Values.{Values}
 use Rattle.sw_settings.specs.Values.{values_of}
+use Rattle.sw_settings.specs.declared.faults.SettingsFault.{SettingsFault}
+use Rattle.sw_settings.specs.Faults.{fault_of}
+use Rattle.sw_answer.specs.Seen.{text_seen}
 use Rattle.sw_schedule.specs.declared.schedule.Line.{Line}
 use Rattle.sw_schedule.specs.declared.schedule.Schedule.{Schedule}
 use Rattle.sw_schedule.specs.Draft.{schedule_of}
@@ -26,7 +29,7 @@ use Rattle.sw_hand.specs.Ports.{Acting}
 use Rattle.sw_play.specs.Steps.{steps_of}
 use Rattle.sw_play.specs.Played.{IsRightlyPlayed}
 use Rattle.sw_play.specs.Drilled.{IsPlain, IsAsked, IsRun, IsRunBy}
-use Rattle.sw_play.specs.Answers.{AnswersBy, Answers}
+use Rattle.sw_play.specs.Answers.{IsSettled, IsWritten, AnswersFor, AnswersBy, Answers}
 use Rattle.sw_play.specs.Rightly.{IsOfRight, IsOfRightBy, IsRightText, PrintsRight}
 
 of_played : {H T : Type 0} (acts : Acting H) (does : Acting T) (v : Values) (given : List (List H)) (tasks : List T) (lines : List Line) (text : List ℕ) → IsRightlyPlayed acts does v given tasks lines text → IsOfRight H T v text
@@ -93,3 +96,29 @@ asked_so s v given tasks lines view (Err e) max w k generations em ew ek eg work
 pub run_so : {S : Type 0} (b : Bool) (s : Script) (v : Values) (lines : List Line) (view : S → List ℕ) (r : Result S OutOfMemory) → b ≡ v.open_http_protocol → IfOk r (λ t. IsRunBy b s v lines (view t)) → IfOk r (λ t. IsRun s v lines (view t))
 run_so b s v lines view (Ok t) is run = subst (λ (c : Bool). IsRunBy c s v lines (view t)) is run
 run_so b s v lines view (Err e) is run = tt
+
+-- ---- for a schedule, and for a text
+
+written_by : {S : Type 0} (view : S → List ℕ) (s : Schedule) (v : Values) (r : Result (Result S Refusal) OutOfMemory) → fault_of s.pairs ≡ None → v ≡ values_of s.pairs → IfOk r (λ x. IsWritten s.script v s.lines (text_seen view x)) → IfOk r (λ x. AnswersFor s (text_seen view x))
+written_by view s v (Ok (Ok t)) free is h = (free, subst (λ (w : Values). IsRun s.script w s.lines (view t)) is h)
+written_by view s v (Ok (Err f)) free is h = absurd h
+written_by view s v (Err e) free is h = tt
+
+-- the settings are these
+pub written_so : {S : Type 0} (view : S → List ℕ) (s : Schedule) (v : Values) (made : Result Values SettingsFault) (r : Result (Result S Refusal) OutOfMemory) → IsSettled s.pairs made → made ≡ Ok v → IfOk r (λ x. IsWritten s.script v s.lines (text_seen view x)) → IfOk r (λ x. AnswersFor s (text_seen view x))
+written_so view s v made r settled is h =
+    let so : IsSettled s.pairs (Ok v) = subst (λ (m : Result Values SettingsFault). IsSettled s.pairs m) is settled in
+    written_by view s v r so.0 so.1 h
+
+-- the settings have this fault
+pub fault_so : (s : Schedule) (fault : SettingsFault) (made : Result Values SettingsFault) → IsSettled s.pairs made → made ≡ Err fault → fault_of s.pairs ≡ Some fault
+fault_so s fault made settled is = subst (λ (m : Result Values SettingsFault). IsSettled s.pairs m) is settled
+
+-- what was read is this
+pub said_so : {S : Type 0} (view : S → List ℕ) (said other : Result Schedule ℕ) (r : Result (Result S Refusal) OutOfMemory) → said ≡ other → IfOk r (λ x. AnswersBy said (text_seen view x)) → IfOk r (λ x. AnswersBy other (text_seen view x))
+said_so view said other (Ok x) is h = subst (λ (q : Result Schedule ℕ). AnswersBy q (text_seen view x)) is h
+said_so view said other (Err e) is h = tt
+
+pub right_so : {S : Type 0} (view : S → List ℕ) (input : List ℕ) (r : Result (Result S Refusal) OutOfMemory) → IfOk r (λ x. Answers input (text_seen view x)) → IfOk r (λ x. PrintsRight input (text_seen view x))
+right_so view input (Ok x) h = prints_right input (text_seen view x) h
+right_so view input (Err e) h = tt

@@ -7,6 +7,8 @@ use Rattle.sw_settings.specs.declared.faults.SettingsFault.{SettingsFault}
 use Rattle.sw_settings.specs.declared.values.Values.{Values}
 use Rattle.sw_settings.specs.Values.{values_of}
 use Rattle.sw_settings.specs.Faults.{fault_of}
+use Rattle.sw_script.specs.declared.script.Script.{Script}
+use Rattle.sw_schedule.specs.declared.schedule.Line.{Line as Lines}
 use Rattle.sw_schedule.specs.declared.schedule.Schedule.{Schedule}
 use Rattle.sw_schedule.specs.Draft.{schedule_of}
 use Rattle.sw_play.specs.Drilled.{IsRun}
@@ -15,6 +17,11 @@ use Rattle.sw_play.specs.Drilled.{IsRun}
 abbrev pub IsSettled : List Pair → Result Values SettingsFault → Type 0
 IsSettled ps (Ok v) = (fault_of ps ≡ None) × (v ≡ values_of ps)
 IsSettled ps (Err fault) = fault_of ps ≡ Some fault
+
+-- what is written for a run is the text of its record
+abbrev pub IsWritten : Script → Values → List Lines → Result (List ℕ) Refusal → Type 0
+IsWritten s v lines (Ok text) = IsRun s v lines text
+IsWritten s v lines (Err refusal) = ⊥
 
 -- a schedule is refused for the first fault of its settings, and without one answered by the text of the record of its run
 abbrev pub AnswersFor : Schedule → Result (List ℕ) Refusal → Type 0
