@@ -1,7 +1,7 @@
 //! The cases one by one, each by its kind.
 
 use crate::case::{Case, bytes_of};
-use crate::{again, beat, cut, read, set, show, table, tool};
+use crate::{again, beat, cut, read, set, show, tool};
 use std::alloc::Global;
 use sw_base::OutOfMemory;
 
@@ -21,7 +21,6 @@ fn put_outcome(
         "cut" => cut::put(alloc, out, case, words, filler),
         "read" => read::put(alloc, out, case, words, filler),
         "settings" => set::put(alloc, out, case, filler),
-        "table" => table::put(alloc, out, case, words, filler),
         "again" => again::put(alloc, out, case),
         "beat" => beat::put(alloc, out, case, words, filler),
         "show" => show::put(alloc, out, words),

@@ -1,5 +1,5 @@
-//! Plays the cases that standard input lists, and prints for each what came out. Stands above everything that a case may
-//! speak of: the command, the cutter, the settings, the Table, and the texts that they are made of. The head of the stored
+//! Plays the cases that standard input lists, and prints for each what came out. Stands above everything that a case
+//! may speak of: the command, the cutter, the settings, and the texts that they are made of. The head of the stored
 //! standard input says how a case is written.
 #![tactic(auto)]
 
@@ -17,8 +17,6 @@ mod read;
 mod record;
 mod set;
 mod show;
-mod table;
-mod table_forms;
 mod tool;
 
 use std::io;

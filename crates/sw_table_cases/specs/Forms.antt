@@ -3,9 +3,9 @@ use Rattle.std.specs.Prelude.{◌≡◌, ℕ, ◌<◌, ◌≤◌}
 use Rattle.sw_column.specs.Values.{HasKinds}
 use Rattle.sw_rowlock.specs.Seats.{IsSeatOf}
 use Rattle.sw_table_join.specs.Tables.{SharedNow, IsHandsOf, IsReady}
-use Rattle.sw_cases.specs.declared.table_forms.Holder.{Holder}
-use Rattle.sw_cases.specs.declared.table_forms.Forms.{Forms}
-use Rattle.sw_cases.specs.declared.table_forms.Closed.{Closed}
+use Rattle.sw_table_cases.specs.declared.holder.Holder.{Holder}
+use Rattle.sw_table_cases.specs.declared.table_forms.Forms.{Forms}
+use Rattle.sw_table_cases.specs.declared.table_forms.Closed.{Closed}
 
 -- a counted seat of the Table, and what it holds
 pub record IsHolder (t : SharedNow) (h : Holder) : Type 0 where

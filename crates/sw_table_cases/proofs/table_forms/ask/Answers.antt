@@ -1,5 +1,5 @@
-use Rattle.sw_cases.proofs.Parts.{own_parts, some_part, one_part}
-use Rattle.sw_cases.proofs.table_forms.ask.Goals as goal
+use Rattle.sw_table_cases.proofs.Parts.{own_parts, some_part, one_part}
+use Rattle.sw_table_cases.proofs.table_forms.ask.Goals as goal
 
 pub try_call-requires-clause-seat : goal.try_call-requires-clause-seat
 try_call-requires-clause-seat c = own_parts c.args.table.now c.args.seat.now c.requires.seat

@@ -2,24 +2,16 @@
 ghost use Rattle.std.specs.Prelude.{◌≡◌, ◌<◌, ◌≤◌, All, IfOk};
 ghost use Rattle.sw_column.specs.Values.{HasKinds};
 ghost use Rattle.sw_table_join.specs.Tables.{IsReady};
-ghost use Rattle.sw_cases.specs.Forms.{AreOpen, AreClosed, IsHolder};
+ghost use Rattle.sw_table_cases.specs.Forms.{AreOpen, AreClosed, IsHolder};
 
-use crate::printed_calls::put_reply;
+use crate::holder::{Holder, put_taken};
 use std::alloc::Global;
 use sw_base::{Call, CallFault, OutOfMemory};
-use sw_bucket::{Bucket, Pool};
 use sw_column::{RowBuf, Schema};
+use sw_log_text::put_reply;
 use sw_port_shelf::Placed;
 use sw_table::{CloseFault, Hands, Seat, Table, close, create};
 use sw_tmodel::{Plain, raised};
-
-/// A seat that may hold a row and the pool.
-#[derive(Drop)]
-pub struct Holder {
-    pub seat: Seat,
-    pub row: Option<(u32, Bucket)>,
-    pub pool: Option<Pool>,
-}
 
 /// Both forms, made alike.
 #[derive(Drop)]
@@ -51,7 +43,7 @@ fn told(
     match answer {
         Ok(placed) => {
             write!(out, "{} ", placed.at)?;
-            put_reply(&mut out, &placed.reply, row.cells()?.as_slice())?;
+            put_reply(&mut out, placed.reply, &row.cells()?)?;
         }
         Err(fault) => write!(out, "refused {fault:?}")?,
     }
@@ -62,83 +54,8 @@ fn put_both(out: &mut String, plain: &str, shared: &str) -> Result<(), OutOfMemo
     Ok(writeln!(out, "{plain} | {shared}")?)
 }
 
-/// What taking a lock came to.
-#[derive(Clone, Copy)]
-enum Taken {
-    Now,
-    /// The seat holds it already.
-    Before,
-    /// The exchange found this number.
-    ByOther(u64),
-}
-
-fn put_taken(out: &mut String, taken: Taken) -> Result<(), OutOfMemory> {
-    match taken {
-        Taken::Now => Ok(out.push_str("- | held\n")?),
-        Taken::Before => Ok(out.push_str("- | held before\n")?),
-        Taken::ByOther(found) => Ok(writeln!(out, "- | taken {found}")?),
-    }
-}
-
 fn is_busy(answer: &Result<Placed, CallFault>) -> bool {
     matches!(answer, Err(CallFault::Busy(_, _)))
-}
-
-impl Holder {
-    /// Takes a row, where it holds none.
-    fn hold_row(&mut self, table: &Table, row: u32) -> Taken
-        requires holder { IsHolder table.now self.old }
-        requires near { row < table.now.size }
-        ensures { IsHolder table.now self.new }
-    {
-        if self.row.is_some() {
-            return Taken::Before;
-        }
-        match table.locks().try_row(&mut self.seat, row) {
-            Ok(bucket) => {
-                self.row = Some((row, bucket));
-                Taken::Now
-            }
-            Err(found) => Taken::ByOther(found),
-        }
-    }
-
-    /// Takes the pool, where it doesn't hold it.
-    fn hold_pool(&mut self, table: &Table) -> Taken
-        requires { IsHolder table.now self.old }
-        ensures { IsHolder table.now self.new }
-    {
-        if self.pool.is_some() {
-            return Taken::Before;
-        }
-        match table.locks().try_pool(&mut self.seat) {
-            Ok(pool) => {
-                self.pool = Some(pool);
-                Taken::Now
-            }
-            Err(found) => Taken::ByOther(found),
-        }
-    }
-
-    /// Gives the pool back.
-    fn give_pool(&mut self, table: &Table)
-        requires { IsHolder table.now self.old }
-        ensures holder { IsHolder table.now self.new }
-    {
-        if let Some(pool) = self.pool.take() {
-            table.locks().give_pool(&mut self.seat, pool);
-        }
-    }
-
-    /// Gives the row back.
-    fn give_row(&mut self, table: &Table)
-        requires { IsHolder table.now self.old }
-        ensures { IsHolder table.now self.new }
-    {
-        if let Some((row, bucket)) = self.row.take() {
-            table.locks().give_row(&mut self.seat, row, bucket);
-        }
-    }
 }
 
 /// Makes a call by a seat that holds nothing.
@@ -352,24 +269,6 @@ fn add(table: &Table, seats: &mut Vec<Seat>, seat: Seat) -> Result<(), OutOfMemo
     let _ = table;
     seats.push(seat)?;
     Ok(())
-}
-
-impl Holder {
-    /// Its seat, once it gave back what it holds.
-    fn into_free(self, table: &Table) -> Seat
-        requires { IsHolder table.now self }
-        ensures { IsReady table.now 1 result }
-    {
-        let Holder { seat, row, pool } = self;
-        let mut seat = seat;
-        if let Some(pool) = pool {
-            table.locks().give_pool(&mut seat, pool);
-        }
-        if let Some((row, bucket)) = row {
-            table.locks().give_row(&mut seat, row, bucket);
-        }
-        seat
-    }
 }
 
 impl Closed {

@@ -1,11 +1,12 @@
-//! Cases of the Table: calls in, and out of both forms, the plain one and the one that threads share, their places and replies.
-ghost use Rattle.sw_cases.specs.Forms.{AreOpen, AreClosed};
+//! Cases of the Table: calls in, and out of both forms, the plain one and the one that threads share, their places and
+//! replies.
+ghost use Rattle.sw_table_cases.specs.Forms.{AreOpen, AreClosed};
 
-use crate::case::{Case, bytes_of};
 use crate::table_forms::{Closed, Forms};
 use std::alloc::Global;
 use sw_base::OutOfMemory;
 use sw_call::{call, columns, schema};
+use sw_case_texts::Case;
 use sw_column::Schema;
 use sw_table::CloseFault;
 use sw_text::{cut, number, number_within};
@@ -73,16 +74,11 @@ fn put_call(
 }
 
 /// The lines with this mark, without it.
-fn marked(
-    alloc: Global,
-    case: &Case,
-    mark: &str,
-    filler: &[u8],
-) -> Result<Vec<Vec<u8>>, OutOfMemory> {
+fn marked<'a>(alloc: Global, case: &Case<'a>, mark: &str) -> Result<Vec<&'a str>, OutOfMemory> {
     let mut texts = Vec::new(alloc);
     for line in &case.lines {
-        if line.starts_with(mark) {
-            texts.push(bytes_of(alloc, line, filler)?)?;
+        if let Some(text) = line.strip_prefix(mark) {
+            texts.push(text)?;
         }
     }
     Ok(texts)
@@ -93,13 +89,13 @@ fn put_lines(
     alloc: Global,
     out: &mut String,
     forms: &mut Forms,
-    texts: &[Vec<u8>],
+    texts: &[&str],
 ) -> Result<(), OutOfMemory>
     requires { AreOpen forms.old }
     ensures { AreOpen forms.new }
 {
     for text in texts {
-        put_line(alloc, out, forms, text)?;
+        put_line(alloc, out, forms, text.as_bytes())?;
     }
     Ok(())
 }
@@ -109,13 +105,13 @@ fn put_behind(
     alloc: Global,
     out: &mut String,
     closed: Closed,
-    texts: &[Vec<u8>],
+    texts: &[&str],
 ) -> Result<(), OutOfMemory>
     requires { AreClosed closed }
 {
     let mut closed = closed;
     for text in texts {
-        if let Some(call) = call(alloc, text)? {
+        if let Some(call) = call(alloc, text.as_bytes())? {
             closed.put(alloc, out, &call)?;
         }
     }
@@ -129,15 +125,19 @@ fn put_short(out: &mut String, fault: CloseFault) -> Result<(), OutOfMemory> {
     }
 }
 
-/// Plays the case: `table SIZE PERCENT CALLS COLUMNS`, with the number of rows, the percent of the pool, and how many calls
-/// may have a place. The lines are calls.
-pub fn put(
-    alloc: Global,
-    out: &mut String,
-    case: &Case,
-    words: &str,
-    filler: &[u8],
-) -> Result<(), OutOfMemory> {
+/// Whether a line of the case is this word.
+fn has(case: &Case, word: &str) -> bool {
+    for line in &case.lines {
+        if *line == word {
+            return true;
+        }
+    }
+    false
+}
+
+/// Plays the case: `table SIZE PERCENT CALLS COLUMNS`, with the number of rows, the percent of the pool, and how many
+/// calls may have a place. The lines are calls.
+pub fn put(alloc: Global, out: &mut String, case: &Case, words: &str) -> Result<(), OutOfMemory> {
     let words: Vec<&str> = words.split(" ").collect(alloc)?;
     let [size, percent, last_call, columns] = words.as_slice() else {
         return Ok(out.push_str("no Table\n")?);
@@ -151,11 +151,11 @@ pub fn put(
         return Ok(out.push_str("no Table\n")?);
     };
     let mut forms = Forms::make(alloc, schema, size as u32, percent as u32, last_call)?;
-    let texts = marked(alloc, case, ">", filler)?;
+    let texts = marked(alloc, case, "> ")?;
     put_lines(alloc, out, &mut forms, &texts)?;
-    match forms.close(alloc, case.option("close") == "1")? {
+    match forms.close(alloc, has(case, "alone"))? {
         Ok(closed) => {
-            let texts = marked(alloc, case, "+", filler)?;
+            let texts = marked(alloc, case, "+ ")?;
             put_behind(alloc, out, closed, &texts)
         }
         Err(fault) => put_short(out, fault),
