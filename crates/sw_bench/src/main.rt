@@ -14,11 +14,12 @@ mod rowlock_swaps;
 mod sessions;
 mod table;
 mod timers;
+mod turn;
 
 use std::{env, io};
 
 /// What is printed where no part is named, behind a small load that is the same at each run.
-const USAGE: &str = "usage: sw_bench pipe|rowlock|board|sessions|table|audit|cut|timers";
+const USAGE: &str = "usage: sw_bench pipe|rowlock|board|sessions|table|audit|cut|timers|turn";
 
 fn main(rt: HostRuntime) -> io::Result<()> {
     let mut words = env::args(&rt)?;
@@ -36,6 +37,7 @@ fn main(rt: HostRuntime) -> io::Result<()> {
         "audit" => audit::figures(&rt, rt.alloc()),
         "cut" => cut::figures(&rt, rt.alloc()),
         "timers" => timers::figures(&rt, rt.alloc()),
+        "turn" => turn::figures(&rt, rt.alloc()),
         _ => println!(rt; "{USAGE}"),
     }
 }
