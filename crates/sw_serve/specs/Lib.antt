@@ -1,0 +1,5 @@
+pub mod Statuses
+pub mod Counting
+pub mod Following
+pub mod Inputs
+pub mod Caused
