@@ -4,7 +4,8 @@ ghost use Rattle.sw_players.specs.Actors.{actor_made};
 ghost use Rattle.sw_players.specs.Hears.{Hears};
 ghost use Rattle.sw_players.specs.Turns.{IsDoor};
 ghost use Rattle.sw_sessions.specs.Values.{slots};
-ghost use Rattle.sw_sweep.specs.Ended.{IsLeft};
+ghost use Rattle.sw_sweep.specs.Ended.{IsLeft, IsLeftBy};
+ghost use Rattle.sw_sweep.specs.Sorted.{IsAtReactor};
 
 use crate::crew::{Crew, sort};
 use crate::hands::{end_taskers, end_workers};
@@ -92,11 +93,8 @@ fn close_all<J: Naming>(
     stands.close(alloc, taken)
 }
 
-/// Puts together what came back, and says whether an accept failed: each link that an actor or a pipe still held goes to the
-/// ends, session words, board and Table end, and net, ends, handlers and the Table's rows are given back, these where `rows` asks
-/// for them. OutOfMemory comes where an actor found no memory, or this finds none.
-#[tactic(auto, using(crate::proofs::Telling::left))]
-pub fn finish<
+/// Ends players who are sorted, and says whether an accept failed.
+fn end_crew<
     N: Net + Drop,
     J: Naming,
     E: Ends<N::Link> + Drop,
@@ -107,19 +105,21 @@ pub fn finish<
     rt: &R,
     alloc: Global,
     rows: bool,
-    players: Vec<Actor<N, J, E, H, T>>,
+    crew: Crew<N, J, E, H, T>,
     stands: Stands<J>,
 ) -> Result<(Stopped<N, E, H, T>, bool), OutOfMemory>
 where
     N::Link: Drop,
-    ensures { IfOk result (λ r. IsLeft H.made T.made N.faults (map (actor_made H.made T.made) players.items) r.0 r.1) }
+    requires doors { All (λ p. IsDoor p.door) crew.doors.items }
+    requires reactors { All (IsAtReactor (slots J.book) J.board.sizes) crew.reactors.items }
+    ensures { IfOk result (λ r. IsLeftBy H.made T.made N.faults crew r.0 r.1) }
 {
     let Crew {
         mut doors,
         reactors,
         workers,
         taskers,
-    } = sort(alloc, players)?;
+    } = crew;
     let Some(door) = last_door(&mut doors) else {
         return Err(OutOfMemory);
     };
@@ -146,4 +146,29 @@ where
         },
         failed,
     ))
+}
+
+/// Puts together what came back, and says whether an accept failed: each link that an actor or a pipe still held goes to the
+/// ends, session words, board and Table end, and net, ends, handlers and the Table's rows are given back, these where `rows` asks
+/// for them. OutOfMemory comes where an actor found no memory, or this finds none.
+pub fn finish<
+    N: Net + Drop,
+    J: Naming,
+    E: Ends<N::Link> + Drop,
+    H: Handler + Drop,
+    T: Handler + Drop,
+    R: Wait,
+>(
+    rt: &R,
+    alloc: Global,
+    rows: bool,
+    players: Vec<Actor<N, J, E, H, T>>,
+    stands: Stands<J>,
+) -> Result<(Stopped<N, E, H, T>, bool), OutOfMemory>
+where
+    N::Link: Drop,
+    ensures { IfOk result (λ r. IsLeft H.made T.made N.faults (map (actor_made H.made T.made) players.items) r.0 r.1) }
+{
+    let crew = sort(alloc, players)?;
+    end_crew(rt, alloc, rows, crew, stands)
 }
