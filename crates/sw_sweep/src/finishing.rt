@@ -74,9 +74,10 @@ fn last_door<N: Net, J: Naming, E>(doors: &mut Vec<AtDoor<N, J, E>>) -> Option<A
     doors.pop()
 }
 
-/// Ends session words, board and Table, and gives what the Table's calls left.
+/// Ends session words, board and Table, and gives what the Table's calls left, where `rows` asks for it.
 fn close_all<J: Naming>(
     alloc: Global,
+    rows: bool,
     clerk: NamedClerk<J>,
     seat: NamedSeat<J>,
     stands: Stands<J>,
@@ -90,7 +91,8 @@ fn close_all<J: Naming>(
     close_words(alloc, clerk, passes)?;
     seats.push(seat)?;
     close_board(alloc, seats)?;
-    stands.close(alloc, taken)
+    let plain = stands.close(alloc, taken)?;
+    Ok(if rows { plain } else { None })
 }
 
 /// Ends players who are sorted, and says whether an accept failed.
@@ -131,9 +133,9 @@ where
     let door_whole = door.whole;
     let failed = door.failed;
     ends.push(door.ends)?;
-    let plain = close_all(alloc, door.clerk, door.seat, stands, shares)?;
-    let table = if rows { plain } else { None };
-    if !(reactors_whole && workers_whole && taskers_whole && door_whole) {
+    let table = close_all(alloc, rows, door.clerk, door.seat, stands, shares)?;
+    let whole = reactors_whole & workers_whole & taskers_whole & door_whole;
+    if !whole {
         return Err(OutOfMemory);
     }
     Ok((

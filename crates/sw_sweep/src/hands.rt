@@ -63,7 +63,7 @@ pub fn end_workers<L: Drop, J: Naming, H: Handler + Drop>(
         let lost = worker.worker.lost();
         let some = end_worker(worker, shares)?;
         handlers.push(some)?;
-        whole = whole && !lost;
+        whole &= !lost;
     }
     Ok((handlers, whole))
 }
@@ -82,7 +82,7 @@ pub fn end_taskers<L: Drop, J: Naming, T: Handler + Drop>(
         let lost = tasker.tasker.lost();
         let one = end_tasker(tasker, shares)?;
         handlers.push(one)?;
-        whole = whole && !lost;
+        whole &= !lost;
     }
     Ok((handlers, whole))
 }

@@ -5,7 +5,7 @@ use Rattle.sw_sweep.proofs.Taking.{none_mapped, one_taken, all_taken}
 use Rattle.sw_sweep.proofs.hands.end_taskers.Goals as goal
 
 pub loop-tasker-init : goal.loop-tasker-init
-loop-tasker-init g c = (refl, search rules, none_mapped _ c.new-handlers.result.items c.new-handlers.ensures)
+loop-tasker-init g c = (refl, search rules, none_mapped _ c.new-handlers.result.items c.new-handlers.ensures.items)
 
 pub loop-tasker-preserved : goal.loop-tasker-preserved
 loop-tasker-preserved g c =

@@ -6,7 +6,7 @@ use Rattle.sw_sweep.proofs.Taking.{none_mapped, one_taken, all_taken}
 use Rattle.sw_sweep.proofs.hands.end_workers.Goals as goal
 
 pub loop-worker-init : goal.loop-worker-init
-loop-worker-init g c = (refl, search rules, none_mapped _ c.new-handlers.result.items c.new-handlers.ensures)
+loop-worker-init g c = (refl, search rules, none_mapped _ c.new-handlers.result.items c.new-handlers.ensures.items)
 
 pub loop-worker-preserved : goal.loop-worker-preserved
 loop-worker-preserved g c =
