@@ -1,5 +1,5 @@
 -- What sorted players were made with.
-use Rattle.std.proofs.Common.{◌≡◌, ℕ, arith, subst, Bool, List, [], ◌∷◌, length, refl, ap, ◌∙◌, map}
+use Rattle.std.proofs.Common.{◌≡◌, ℕ, arith, subst, Bool, List, [], ◌∷◌, ◌++◌, length, refl, sym, ap, ◌∙◌, map}
 use Rattle.sw_players.specs.declared.actor.Actor.{Actor}
 use Rattle.sw_players.specs.declared.actor.Actor.TheVariants.{Door, Reactor, Worker, Tasker}
 use Rattle.sw_players.specs.declared.door.AtDoor.{AtDoor}
@@ -14,6 +14,17 @@ use Rattle.sw_sweep.specs.Ended.{IsLeft, IsLeftBy}
 use Rattle.sw_sweep.specs.Sorted.{doors_in, workers_in, taskers_in, Sorted}
 use Rattle.sw_sweep.specs.Told.{nets_of, workers_of, taskers_of}
 use Rattle.sw_worker.specs.Generations.{made}
+
+-- the last of one thing is that one
+last_only : {X : Type 0} (all others : List X) (last x : X) → all ≡ others ++ last ∷ [] → all ≡ x ∷ [] → last ≡ x
+last_only all [] last x e one = let h = sym e ∙ one in cc
+last_only all (y ∷ []) last x e one = absurd (let l = ap length (sym e ∙ one) in omega (arith, l))
+last_only all (y ∷ z ∷ others) last x e one = absurd (let l = ap length (sym e ∙ one) in omega (arith, l))
+
+-- what is told of the last door is told of the only one
+pub last_heard : {N J E L : Type 0} (faults : N → ℕ) (all others : List (AtDoor N J E L)) (last door : AtDoor N J E L) (net : N) (failed : Bool) → all ≡ others ++ last ∷ [] → all ≡ door ∷ [] → Hears (faults last.net.was) (faults net) failed → Hears (faults door.net.was) (faults net) failed
+last_heard {N} {J} {E} {L} faults all others last door net failed e one h =
+    subst (λ (d : AtDoor N J E L). Hears (faults d.net.was) (faults net) failed) (last_only all others last door e one) h
 
 -- of one thing, one was made
 pub only : {X Y : Type 0} (f : X → Y) (xs : List X) (y : Y) → map f xs ≡ y ∷ [] → (x : X) × (xs ≡ x ∷ []) × (f x ≡ y)
