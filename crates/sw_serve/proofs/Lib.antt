@@ -1,3 +1,4 @@
-pub mod Causing
+pub mod Accepting
 pub mod Enough
 pub mod Reading
+pub mod Saying

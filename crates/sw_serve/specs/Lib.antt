@@ -1,5 +1,6 @@
+pub mod Accepts
 pub mod Statuses
-pub mod Counting
-pub mod Following
+pub mod Written
 pub mod Inputs
-pub mod Caused
+pub mod Crews
+pub mod Says

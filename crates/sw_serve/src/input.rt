@@ -1,26 +1,26 @@
 //! What `serve` reads: settings on the first line, and rules on the others.
 ghost use Rattle.std.specs.Option.{option_copied};
 ghost use Rattle.sw_settings_json.specs.Json.{json_settings};
-ghost use Rattle.sw_script.specs.Script.{script_of};
-ghost use Rattle.sw_serve.specs.Inputs.{some_rules, rules_in, rules_behind, Reads, IsRead, IsInputOf, SetsBy};
+ghost use Rattle.sw_serve.specs.Inputs.{rules_behind, input_cut, input_of, ReadsRules, ReadsSettings, IsReadAs};
 
 use std::alloc::Global;
+use sw_answer::is_memory;
 use sw_script::{Script, ScriptFault, read};
 use sw_settings::{Settings, SettingsFault};
 use sw_settings_json::from_json;
 use sw_text::cut;
 
-/// Settings, and rules where there are any.
+/// Settings, and rules, of which there may be none.
 #[derive(Drop)]
 pub struct Input {
     pub settings: Settings,
-    pub script: Option<Script>,
+    pub script: Script,
 }
 
 /// Why an input is refused.
 #[derive(Drop)]
 pub enum InputRefusal {
-    /// This line is no rule; the settings' line counts as line 1.
+    /// The line of this number, from 1, is the first behind the settings' line that is no rule.
     Line(u64),
     /// The settings have this fault.
     Settings(SettingsFault),
@@ -28,65 +28,50 @@ pub enum InputRefusal {
     OutOfMemory,
 }
 
-/// The rules of a text that has some.
-fn some_rules(alloc: Global, text: &[u8]) -> Result<Option<Script>, InputRefusal>
-    ensures { Reads (some_rules (script_of text.now)) result }
-{
-    match read(alloc, text) {
-        Ok(script) => Ok(Some(script)),
-        Err(ScriptFault::BadLine(n)) => Err(InputRefusal::Line(n.saturating_add(1))),
-        Err(ScriptFault::OutOfMemory) => Err(InputRefusal::OutOfMemory),
-    }
-}
-
-/// The rules of a text; an empty one has none.
-fn rules(alloc: Global, text: &[u8]) -> Result<Option<Script>, InputRefusal>
-    ensures { Reads (rules_in text.now) result }
-{
-    if text.len() == 0 {
-        Ok(None)
-    } else {
-        some_rules(alloc, text)
-    }
-}
-
-/// The rules of what stands behind the first line, if anything does.
-fn rules_behind(alloc: Global, text: Option<&[u8]>) -> Result<Option<Script>, InputRefusal>
-    ensures { Reads (rules_behind (option_copied text)) result }
+/// The rules of what stands behind the first line, if anything does. The settings' line counts as line 1.
+fn rules_behind(alloc: Global, text: Option<&[u8]>) -> Result<Script, InputRefusal>
+    ensures { ReadsRules (rules_behind (option_copied text.entry)) result }
 {
     match text {
-        None => Ok(None),
-        Some(text) => rules(alloc, text),
+        None => Ok(Script::new(alloc)),
+        Some(text) => match read(alloc, text) {
+            Ok(script) => Ok(script),
+            Err(ScriptFault::BadLine(n)) => Err(InputRefusal::Line(n.saturating_add(1))),
+            Err(ScriptFault::OutOfMemory) => Err(InputRefusal::OutOfMemory),
+        },
     }
 }
 
 /// The settings of a line.
 fn settings(alloc: Global, text: &[u8]) -> Result<Settings, InputRefusal>
-    ensures { SetsBy (json_settings text.now) result }
+    ensures { ReadsSettings (json_settings text.now) result }
 {
     match from_json(alloc, text) {
         Ok(settings) => Ok(settings),
-        Err(fault) => match fault {
-            SettingsFault::OutOfMemory => Err(InputRefusal::OutOfMemory),
-            fault => Err(InputRefusal::Settings(fault)),
-        },
+        Err(fault) => {
+            if is_memory(&fault) {
+                return Err(InputRefusal::OutOfMemory);
+            }
+            Err(InputRefusal::Settings(fault))
+        }
     }
 }
 
-/// Reads the settings' line and what stands behind it.
-fn read_parts(alloc: Global, first: &[u8], rest: Option<&[u8]>) -> Result<Input, InputRefusal>
-    ensures { IsRead (first.now, option_copied rest) result }
+/// The first line and what stands behind it, read.
+#[tactic(auto, using(crate::proofs::Reading::refused_rules, crate::proofs::Reading::refused_settings, crate::proofs::Reading::read_both))]
+fn read_cut(alloc: Global, first: &[u8], rest: Option<&[u8]>) -> Result<Input, InputRefusal>
+    ensures { IsReadAs (input_cut (first.now, option_copied rest.entry)) result }
 {
     let script = rules_behind(alloc, rest)?;
     let settings = settings(alloc, first)?;
     Ok(Input { settings, script })
 }
 
-/// Reads a whole input. A line that is no rule is told before the settings' fault.
-#[tactic(auto, using(crate::proofs::Reading::same_parts))]
+/// Reads a whole input. A line that is no rule is told before the settings' fault; want of memory may come in place of any answer.
+#[tactic(auto, using(crate::proofs::Reading::same_cut))]
 pub fn read_input(alloc: Global, text: &[u8]) -> Result<Input, InputRefusal>
-    ensures { IsInputOf text.now result }
+    ensures { IsReadAs (input_of text.now) result }
 {
     let (first, rest) = cut(text, 10);
-    read_parts(alloc, first, rest)
+    read_cut(alloc, first, rest)
 }

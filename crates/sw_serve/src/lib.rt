@@ -1,16 +1,15 @@
 //! `serve`: its input, the server that it runs, and what it writes.
 #![tactic(auto)]
 
-mod counting;
-mod following;
-mod handlers;
+mod accepts;
+mod crew;
 mod input;
+mod running;
 mod serving;
 mod status;
 mod writing;
 
-pub use counting::Counting;
-pub use following::{Following, follower};
+pub use accepts::{Counting, First};
 pub use input::{Input, InputRefusal, read_input};
 pub use serving::serve;
 pub use status::ServeStatus;
