@@ -38,18 +38,14 @@ pub record Counted (N : Type 0) : Type 0 where
 abbrev pub CountsAs : {N L : Type 0} → (N → Accept L → N → Type 0) → Counted N → Accept L → Counted N → Type 0
 CountsAs gives c a d = gives c.net a d.net × (d.count ≡ counted a c.count)
 
--- accepts led from a net that is so to another, and gave so many links
-abbrev pub GaveFrom : {N L : Type 0} → (N → Accept L → N → Type 0) → (N → Type 0) → ℕ → Type 0
-GaveFrom {N} gives is_first count = (net : N) × Gave gives is_first net count
+-- accepts of the one net led to the other, and gave so many links
+abbrev pub GaveLinks : {N L : Type 0} → (N → Accept L → N → Type 0) → N → N → ℕ → Type 0
+GaveLinks gives was net count = Gave gives (λ n. n ≡ was) net count
 
--- accepts led from a net that is so to one with a greater count of faults than this net has
-abbrev pub FailedFrom : {N L : Type 0} → (N → Accept L → N → Type 0) → (N → ℕ) → (N → Type 0) → N → Type 0
-FailedFrom {N} gives faults is_first was = (net : N) × (count : ℕ) × Gave gives is_first net count × Rises (faults was) (faults net)
+-- accepts of the one net led to the other
+abbrev pub LedTo : {N L : Type 0} → (N → Accept L → N → Type 0) → N → N → Type 0
+LedTo gives was net = (count : ℕ) × GaveLinks gives was net count
 
--- this net gave so many links
-abbrev pub GaveLinks : {N L : Type 0} → (N → Accept L → N → Type 0) → N → ℕ → Type 0
-GaveLinks gives was count = GaveFrom gives (λ n. n ≡ was) count
-
--- accepts of this net raised its count of faults
-abbrev pub Failed : {N L : Type 0} → (N → Accept L → N → Type 0) → (N → ℕ) → N → Type 0
-Failed gives faults was = FailedFrom gives faults (λ n. n ≡ was) was
+-- no accepts of this net raise its count of faults
+abbrev pub NeverFails : {N L : Type 0} → (N → Accept L → N → Type 0) → (N → ℕ) → N → Type 0
+NeverFails {N} gives faults was = (net : N) → LedTo gives was net → Rises (faults was) (faults net) → ⊥

@@ -3,6 +3,8 @@ use Rattle.std.specs.Prelude.{◌≡◌, ◌⊎◌, ◌≤◌, ℕ, List, length
 use Rattle.std.specs.Io.KnownBytes.{Consumes, IsAtEnd}
 use Rattle.sw_causes.specs.Causes.{Rises}
 use Rattle.sw_causes.specs.Whole.{Came, IsLong, limit}
+use Rattle.sw_link.specs.declared.net.Accept.{Accept}
+use Rattle.sw_serve.specs.Accepts.{GaveLinks, LedTo, NeverFails}
 use Rattle.sw_serve.specs.Inputs.{input_of}
 use Rattle.sw_serve.specs.Statuses.{served_text, fault_text}
 use Rattle.sw_serve.specs.Written.{FromSink, IsWritten, IsCut, Finishes}
@@ -45,46 +47,6 @@ Reads s r = (text : List ℕ) × IsAll s text × (input_of text ≡ r)
 abbrev pub HasRead : FromSource → Type 0
 HasRead s = (i : Input) × Reads s (Ok i)
 
--- ---- what is due
-
--- the status and the text that are right: `gave` says how many links the net may have given, `deaf` that it counted a fault, and the
--- last count is the spawner's
-abbrev pub Due : FromSource → (ℕ → Type 0) → Type 0 → Count → ServeStatus → List ℕ → Type 0
-Due s gave deaf starts statuses.Ok text = HasRead s × ((n : ℕ) × gave n × (text ≡ served_text n))
-Due s gave deaf starts (statuses.BadLine n) text = Reads s (Err (refusals.Line n)) × (text ≡ fault_text (statuses.BadLine n))
-Due s gave deaf starts (statuses.Settings fault) text = Reads s (Err (refusals.Settings fault)) × (text ≡ fault_text (statuses.Settings fault))
-Due s gave deaf starts statuses.InputLong text = Came s.left s.left_new IsLong × (text ≡ fault_text statuses.InputLong)
-Due s gave deaf starts statuses.ReadFault text = Came s.left s.left_new (λ n. n ≤ limit) × Rises s.faults s.faults_new × (text ≡ fault_text statuses.ReadFault)
-Due s gave deaf starts statuses.WriteFault text = ⊥
-Due s gave deaf starts statuses.OutOfMemory text = text ≡ fault_text statuses.OutOfMemory
-Due s gave deaf starts statuses.ListenFault text = HasRead s × deaf × (text ≡ fault_text statuses.ListenFault)
-Due s gave deaf starts statuses.StartFault text = HasRead s × HasRisen starts × (text ≡ fault_text statuses.StartFault)
-
--- a status and a text that are right, and they were answered and written
-abbrev pub Does : FromSource → FromSink → (ℕ → Type 0) → Type 0 → Count → ServeStatus → Type 0
-Does s k gave deaf starts result = (status : ServeStatus) × (text : List ℕ) × Due s gave deaf starts status text × Finishes k status text result
-
--- ---- what each answer says
-
--- what is due was written
-abbrev pub SaysDue : FromSource → FromSink → (ℕ → Type 0) → Type 0 → Count → ServeStatus → Type 0
-SaysDue s k gave deaf starts status = (text : List ℕ) × Due s gave deaf starts status text × IsWritten k text
-
--- WriteFault says that not all was written of what is due, want of memory that the line was or wasn't written whole, and each other
--- status that what is due for it was
-abbrev pub Said : FromSource → FromSink → (ℕ → Type 0) → Type 0 → Count → ServeStatus → Type 0
-Said s k gave deaf starts statuses.Ok = SaysDue s k gave deaf starts statuses.Ok
-Said s k gave deaf starts (statuses.BadLine n) = SaysDue s k gave deaf starts (statuses.BadLine n)
-Said s k gave deaf starts (statuses.Settings fault) = SaysDue s k gave deaf starts (statuses.Settings fault)
-Said s k gave deaf starts statuses.InputLong = SaysDue s k gave deaf starts statuses.InputLong
-Said s k gave deaf starts statuses.ReadFault = SaysDue s k gave deaf starts statuses.ReadFault
-Said s k gave deaf starts statuses.WriteFault = (status : ServeStatus) × (text : List ℕ) × Due s gave deaf starts status text × IsCut k text
-Said s k gave deaf starts statuses.OutOfMemory = IsWritten k (fault_text statuses.OutOfMemory) ⊎ IsCut k (fault_text statuses.OutOfMemory)
-Said s k gave deaf starts statuses.ListenFault = SaysDue s k gave deaf starts statuses.ListenFault
-Said s k gave deaf starts statuses.StartFault = SaysDue s k gave deaf starts statuses.StartFault
-
--- ---- the input alone decides
-
 -- the status that an input asks for
 abbrev pub expected : Result Input InputRefusal → ServeStatus
 expected (Ok i) = statuses.Ok
@@ -92,10 +54,56 @@ expected (Err (refusals.Line n)) = statuses.BadLine n
 expected (Err (refusals.Settings fault)) = statuses.Settings fault
 expected (Err refusals.OutOfMemory) = statuses.OutOfMemory
 
--- without a fault of the outside, an input that isn't too long is answered by its text alone, unless memory runs out
-abbrev pub IsComplete : FromSource → FromSink → Type 0 → Count → ServeStatus → Type 0
-IsComplete s k deaf starts result = (Rises s.faults s.faults_new → ⊥) → (Rises k.faults k.faults_new → ⊥) → (deaf → ⊥) → (HasRisen starts → ⊥) → (text : List ℕ) → s.left ≡ Some text → length text ≤ limit
-    → (result ≡ expected (input_of text)) ⊎ (result ≡ statuses.OutOfMemory)
+-- ---- what is due
+
+module _ {N L : Type 0} (gives : N → Accept L → N → Type 0) (faults : N → ℕ) (was : N) (starts : Count) where
+  -- accepts of the net led to the one that is given back, and gave so many links
+  abbrev pub GaveBack : Option N → ℕ → Type 0
+  GaveBack back count = (net : N) × (back ≡ Some net) × GaveLinks gives was net count
+
+  -- accepts of the net led to the one that is given back, whose count of faults rose
+  abbrev pub FailedBack : Option N → Type 0
+  FailedBack back = (net : N) × (back ≡ Some net) × LedTo gives was net × Rises (faults was) (faults net)
+
+  -- the status, the text and the net that are right: where nothing was served, the net is given back as it was
+  abbrev pub Due : FromSource → ServeStatus → List ℕ → Option N → Type 0
+  Due s statuses.Ok text back = HasRead s × ((count : ℕ) × GaveBack back count × (text ≡ served_text count))
+  Due s (statuses.BadLine n) text back = Reads s (Err (refusals.Line n)) × (back ≡ Some was) × (text ≡ fault_text (statuses.BadLine n))
+  Due s (statuses.Settings fault) text back = Reads s (Err (refusals.Settings fault)) × (back ≡ Some was) × (text ≡ fault_text (statuses.Settings fault))
+  Due s statuses.InputLong text back = Came s.left s.left_new IsLong × (back ≡ Some was) × (text ≡ fault_text statuses.InputLong)
+  Due s statuses.ReadFault text back = Came s.left s.left_new (λ n. n ≤ limit) × Rises s.faults s.faults_new × (back ≡ Some was) × (text ≡ fault_text statuses.ReadFault)
+  Due s statuses.WriteFault text back = ⊥
+  Due s statuses.OutOfMemory text back = text ≡ fault_text statuses.OutOfMemory
+  Due s statuses.ListenFault text back = HasRead s × FailedBack back × (text ≡ fault_text statuses.ListenFault)
+  Due s statuses.StartFault text back = HasRead s × ((count : ℕ) × GaveBack back count) × HasRisen starts × (text ≡ fault_text statuses.StartFault)
+
+  -- a status and a text that are right, and they were answered and written
+  abbrev pub Does : FromSource → FromSink → ServeStatus → Option N → Type 0
+  Does s k result back = (status : ServeStatus) × (text : List ℕ) × Due s status text back × Finishes k status text result
+
+  -- ---- what each answer says
+
+  -- what is due was written
+  abbrev pub SaysDue : FromSource → FromSink → ServeStatus → Option N → Type 0
+  SaysDue s k status back = (text : List ℕ) × Due s status text back × IsWritten k text
+
+  -- WriteFault says that not all was written of what is due, want of memory that its line was written or cut, and each other status that
+  -- what is due for it was written
+  abbrev pub Said : FromSource → FromSink → ServeStatus → Option N → Type 0
+  Said s k statuses.Ok back = SaysDue s k statuses.Ok back
+  Said s k (statuses.BadLine n) back = SaysDue s k (statuses.BadLine n) back
+  Said s k (statuses.Settings fault) back = SaysDue s k (statuses.Settings fault) back
+  Said s k statuses.InputLong back = SaysDue s k statuses.InputLong back
+  Said s k statuses.ReadFault back = SaysDue s k statuses.ReadFault back
+  Said s k statuses.WriteFault back = (status : ServeStatus) × (text : List ℕ) × Due s status text back × IsCut k text
+  Said s k statuses.OutOfMemory back = IsWritten k (fault_text statuses.OutOfMemory) ⊎ IsCut k (fault_text statuses.OutOfMemory)
+  Said s k statuses.ListenFault back = SaysDue s k statuses.ListenFault back
+  Said s k statuses.StartFault back = SaysDue s k statuses.StartFault back
+
+  -- without a fault of the outside, an input that isn't too long is answered by its text alone, unless memory runs out
+  abbrev pub IsComplete : FromSource → FromSink → ServeStatus → Type 0
+  IsComplete s k result = (Rises s.faults s.faults_new → ⊥) → (Rises k.faults k.faults_new → ⊥) → NeverFails gives faults was → (HasRisen starts → ⊥) → (text : List ℕ) → s.left ≡ Some text → length text ≤ limit
+      → (result ≡ expected (input_of text)) ⊎ (result ≡ statuses.OutOfMemory)
 
 -- ---- its parts
 
@@ -124,16 +132,3 @@ IsTaken text (Err statuses.WriteFault) = ⊥
 IsTaken text (Err statuses.OutOfMemory) = Unit {0}
 IsTaken text (Err statuses.ListenFault) = ⊥
 IsTaken text (Err statuses.StartFault) = ⊥
-
--- what a server came to: its net gave so many links, or why it didn't run to its end
-abbrev pub Ran : (ℕ → Type 0) → Type 0 → Count → Result ℕ ServeStatus → Type 0
-Ran gave deaf starts (Ok n) = gave n
-Ran gave deaf starts (Err statuses.Ok) = ⊥
-Ran gave deaf starts (Err (statuses.BadLine n)) = ⊥
-Ran gave deaf starts (Err (statuses.Settings fault)) = ⊥
-Ran gave deaf starts (Err statuses.InputLong) = ⊥
-Ran gave deaf starts (Err statuses.ReadFault) = ⊥
-Ran gave deaf starts (Err statuses.WriteFault) = ⊥
-Ran gave deaf starts (Err statuses.OutOfMemory) = Unit {0}
-Ran gave deaf starts (Err statuses.ListenFault) = deaf
-Ran gave deaf starts (Err statuses.StartFault) = HasRisen starts

@@ -62,12 +62,14 @@ impl<N: Net + Drop, J: First<N>> Counting<N, J> {
         }
     }
 
-    /// How many links it gave.
-    pub fn count(&self) -> u64
-        ensures count { result ≡ self.now.count }
-        ensures gave { Gave N.accept_gives J.is_first self.now.net result }
+    /// The net, and how many links it gave.
+    pub fn into_parts(self) -> (N, u64)
+        ensures net { result.0 ≡ self.net }
+        ensures count { result.1 ≡ self.count }
+        ensures gave { Gave N.accept_gives J.is_first result.0 result.1 }
     {
-        self.count
+        let Counting { net, count, .. } = self;
+        (net, count)
     }
 }
 

@@ -3,6 +3,7 @@
 
 mod accepts;
 mod crew;
+mod ended;
 mod input;
 mod running;
 mod serving;
@@ -10,7 +11,8 @@ mod status;
 mod writing;
 
 pub use accepts::{Counting, First};
+pub use ended::{Ended, run_counted};
 pub use input::{Input, InputRefusal, read_input};
-pub use serving::serve;
+pub use serving::{Served, serve};
 pub use status::ServeStatus;
 pub use writing::{refused, write_out};

@@ -1,10 +1,9 @@
 //! `serve`, from its input to its output.
 ghost use Rattle.std.specs.Prelude.{◌≤◌, length};
-ghost use Rattle.sw_serve.specs.Accepts.{GaveLinks, Failed};
 ghost use Rattle.sw_serve.specs.Says.{IsTaken, Comes, Does, Said, IsComplete};
 
 use crate::input::{Input, InputRefusal, read_input};
-use crate::running::run;
+use crate::running::{Stop, run};
 use crate::status::ServeStatus;
 use crate::writing::{refused, tell};
 use std::alloc::Global;
@@ -43,8 +42,16 @@ fn input_of<S: Source>(alloc: Global, source: &mut S) -> Result<Input, ServeStat
     }
 }
 
+/// How `serve` ended.
+#[derive(Drop)]
+pub struct Served<N> {
+    pub status: ServeStatus,
+    /// The net, as it was where nothing was served; it may be lost where memory ran out.
+    pub net: Option<N>,
+}
+
 /// Reads, runs and writes.
-#[tactic(auto, using(crate::proofs::Saying::unread_does, crate::proofs::Saying::cut_does, crate::proofs::Saying::ran_does))]
+#[tactic(auto, using(crate::proofs::Saying::unread_does, crate::proofs::Saying::whole_does, crate::proofs::Saying::deaf_does, crate::proofs::Saying::short_does, crate::proofs::Saying::lost_does))]
 fn work<
     S: Source,
     K: Sink,
@@ -60,28 +67,46 @@ fn work<
     net: N,
     ends: Vec<E>,
     spawner: &mut P,
-) -> ServeStatus
+) -> Served<N>
 where
     N::Link: Drop + Send + 'static,
     requires { 65 ≤ length ends.items }
-    ensures { Does (record { left = S.left source.old; left_new = S.left source.new; faults = S.faults source.old; faults_new = S.faults source.new; ended = S.ended source.new })
-        (record { taken = K.taken sink.old; taken_new = K.taken sink.new; faults = K.faults sink.old; faults_new = K.faults sink.new })
-        (GaveLinks N.accept_gives net) (Failed N.accept_gives N.faults net)
-        (record { old = P.count spawner.old; new = P.count spawner.new }) result }
+    ensures { Does N.accept_gives N.faults net (record { old = P.count spawner.old; new = P.count spawner.new }) (record { left = S.left source.old; left_new = S.left source.new; faults = S.faults source.old; faults_new = S.faults source.new; ended = S.ended source.new }) (record { taken = K.taken sink.old; taken_new = K.taken sink.new; faults = K.faults sink.old; faults_new = K.faults sink.new }) result.status result.net }
 {
-    match input_of(alloc, source) {
-        Err(status) => refused(alloc, sink, status),
-        Ok(input) => match run(rt, alloc, &input, net, ends, spawner) {
-            Ok(count) => tell(alloc, sink, count),
-            Err(status) => refused(alloc, sink, status),
+    let input = match input_of(alloc, source) {
+        Ok(input) => input,
+        Err(status) => {
+            let status = refused(alloc, sink, status);
+            return Served {
+                status,
+                net: Some(net),
+            };
+        }
+    };
+    match run(rt, alloc, &input, net, ends, spawner) {
+        Stop::Whole(net, count) => Served {
+            status: tell(alloc, sink, count),
+            net: Some(net),
+        },
+        Stop::Deaf(net) => Served {
+            status: refused(alloc, sink, ServeStatus::ListenFault),
+            net: Some(net),
+        },
+        Stop::Short(net) => Served {
+            status: refused(alloc, sink, ServeStatus::StartFault),
+            net: Some(net),
+        },
+        Stop::OutOfMemory => Served {
+            status: refused(alloc, sink, ServeStatus::OutOfMemory),
+            net: None,
         },
     }
 }
 
 /// Reads settings from the source's first line and rules from the others, runs a server with them over this net, and writes
-/// `served` and the number of links that the net gave, or a fault's line. Without rules all handlers are Echo; where the settings
-/// ask for whole HTTP requests, each worker's handler is given these. It waits until the net is at its end, or a handler shut the
-/// server down, and all connections ended.
+/// `served` and the number of links that the net gave, or a fault's line; the net comes back. Without rules all handlers are Echo;
+/// where the settings ask for whole HTTP requests, each worker's handler is given these. It waits until the net is at its end, or a
+/// handler shut the server down, and all connections ended.
 ///
 /// `ends` has a member for each of the 64 reactors that there may be, and one more for the door; the first of them are used. ReadFault
 /// or InputLong comes while reading; then BadLine; then Settings; then the run, and ListenFault or StartFault. WriteFault comes only
@@ -101,16 +126,17 @@ pub fn serve<
     net: N,
     ends: Vec<E>,
     spawner: &mut P,
-) -> ServeStatus
+) -> Served<N>
 where
     N::Link: Drop + Send + 'static,
     requires { 65 ≤ length ends.items }
 
-    // The status has its cause, and what it says was written: at Ok the number of links that the net gave.
-    ensures says { Said (record { left = S.left source.old; left_new = S.left source.new; faults = S.faults source.old; faults_new = S.faults source.new; ended = S.ended source.new }) (record { taken = K.taken sink.old; taken_new = K.taken sink.new; faults = K.faults sink.old; faults_new = K.faults sink.new }) (GaveLinks N.accept_gives net) (Failed N.accept_gives N.faults net) (record { old = P.count spawner.old; new = P.count spawner.new }) result }
+    // The status has its cause, what it says was written, and accepts of the net led to the one that comes back: at Ok they gave as
+    // many links as are told.
+    ensures says { Said N.accept_gives N.faults net (record { old = P.count spawner.old; new = P.count spawner.new }) (record { left = S.left source.old; left_new = S.left source.new; faults = S.faults source.old; faults_new = S.faults source.new; ended = S.ended source.new }) (record { taken = K.taken sink.old; taken_new = K.taken sink.new; faults = K.faults sink.old; faults_new = K.faults sink.new }) result.status result.net }
 
     // Without a fault of the outside the input alone decides.
-    ensures complete { IsComplete (record { left = S.left source.old; left_new = S.left source.new; faults = S.faults source.old; faults_new = S.faults source.new; ended = S.ended source.new }) (record { taken = K.taken sink.old; taken_new = K.taken sink.new; faults = K.faults sink.old; faults_new = K.faults sink.new }) (Failed N.accept_gives N.faults net) (record { old = P.count spawner.old; new = P.count spawner.new }) result }
+    ensures complete { IsComplete N.accept_gives N.faults net (record { old = P.count spawner.old; new = P.count spawner.new }) (record { left = S.left source.old; left_new = S.left source.new; faults = S.faults source.old; faults_new = S.faults source.new; ended = S.ended source.new }) (record { taken = K.taken sink.old; taken_new = K.taken sink.new; faults = K.faults sink.old; faults_new = K.faults sink.new }) result.status }
 {
     work(rt, alloc, source, sink, net, ends, spawner)
 }

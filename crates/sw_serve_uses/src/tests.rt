@@ -78,7 +78,7 @@ fn six_bytes_come_back_over_sockets(rt: HostRuntime) -> Result<(), Fail> {
     let mut source = SureSource::new(text);
     let mut sink = MemorySink::new(alloc, Vec::new(alloc));
     let ends = vec![in alloc; Dropper::new(); 65]?;
-    let status = serve(
+    let served = serve(
         rt,
         alloc,
         &mut source,
@@ -87,7 +87,7 @@ fn six_bytes_come_back_over_sockets(rt: HostRuntime) -> Result<(), Fail> {
         ends,
         &mut Threads {},
     );
-    assert!(rt; status.number() == 0);
+    assert!(rt; served.status.number() == 0);
     assert!(rt; sink.bytes() == b"served 1\n".as_slice());
     let answer = peer.join(&rt).expect(&rt, "an answer");
     assert!(rt; answer.as_slice() == b"a\r\nb\r\n".as_slice());
@@ -165,7 +165,7 @@ fn each_of_eight_clients_reads_its_own(rt: HostRuntime) -> Result<(), Fail> {
     let mut source = SureSource::new(text);
     let mut sink = MemorySink::new(alloc, Vec::new(alloc));
     let ends = vec![in alloc; Dropper::new(); 65]?;
-    let status = serve(
+    let served = serve(
         rt,
         alloc,
         &mut source,
@@ -174,7 +174,7 @@ fn each_of_eight_clients_reads_its_own(rt: HostRuntime) -> Result<(), Fail> {
         ends,
         &mut Threads {},
     );
-    assert!(rt; status.number() == 0);
+    assert!(rt; served.status.number() == 0);
     let mut n = 0u8;
     for peer in peers {
         let answer = peer.join(&rt).expect(&rt, "an answer");

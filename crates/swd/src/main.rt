@@ -74,7 +74,7 @@ fn serve_on<S: Source, K: Sink, R: Threads + Wait + Sockets + Copy + Drop + Send
     let Ok(ends) = vec![in alloc; Dropper::new(); ENDS] else {
         return NO_MEMORY;
     };
-    serve(rt, alloc, source, sink, net, ends, &mut EachOnAThread {}).number()
+    serve(rt, alloc, source, sink, net, ends, &mut EachOnAThread {}).status.number()
 }
 
 /// Serves a load in memory, and answers the number that the program ends with.
