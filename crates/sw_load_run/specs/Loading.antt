@@ -1,5 +1,5 @@
 -- What the handler of a load does.
-use Rattle.std.specs.Prelude.{◌≡◌, ℕ, ◌+◌, ◌-◌, ◌^◌, min, List, [], ◌∷◌, codes, slice_get, Option, Some, None}
+use Rattle.std.specs.Prelude.{◌≡◌, ℕ, ◌+◌, ◌-◌, ◌^◌, min, List, [], ◌∷◌, codes, slice_get, pos, Option, Some, None}
 use Rattle.sw_base.specs.declared.table.Call.{Call}
 use Rattle.sw_base.specs.declared.table.Call.TheVariants.{Incr}
 use Rattle.sw_data.specs.declared.acts.Act.{Act}

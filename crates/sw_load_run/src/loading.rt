@@ -1,20 +1,23 @@
 //! `load`: a server under a load that numbers make.
-ghost use Rattle.std.specs.Prelude.{◌≡◌, None, IfErr, IfOk, length, map, replicate};
+ghost use Rattle.std.specs.Prelude.{◌≡◌, None, IfOk, length, map, replicate};
+ghost use Rattle.sw_load.specs.Summaries.{summary_text};
+ghost use Rattle.sw_load_run.specs.Nets.{IsNetOf};
+ghost use Rattle.sw_load_run.specs.Says.{Ran, Said};
 ghost use Rattle.sw_run.specs.Counts.{miscount};
-ghost use Rattle.sw_serve.specs.Caused.{IsCaused, IsCut, IsTold};
+ghost use Rattle.sw_serve.specs.Written.{Tells};
 
 use crate::counting::summary_of;
 use crate::handler::Loading;
 use crate::net::net_of;
 use std::alloc::Global;
+use std::marker::Brand;
 use std::sync::Wait;
 use std::thread::Threads;
 use sw_base::OutOfMemory;
 use sw_causes::Sink;
-use sw_link::{Keeper, MemoryLink};
+use sw_link::{Keeper, MemoryLink, MemoryNet};
 use sw_load::{Plan, Summary, summary_text};
-use sw_run::{ServeFault, run_server};
-use sw_serve::{ServeStatus, refused, write_out};
+use sw_serve::{Ended, ServeStatus, refused, run_counted, write_out};
 use sw_settings::Settings;
 use sw_settings_json::from_json;
 use sw_spawn::Spawner;
@@ -54,7 +57,7 @@ struct Made {
 }
 
 /// The handlers of all workers.
-#[tactic(auto, using(sw_serve::proofs::Enough::one_more))]
+#[tactic(auto, using(crate::proofs::Making::one_more))]
 fn workers(alloc: Global, settings: &Settings) -> Result<Vec<Vec<Loading>>, OutOfMemory>
     ensures { IfOk result (λ ws. map (λ hs. length hs.items) ws.items ≡ replicate settings.now.worker_num settings.now.generation_num) }
 {
@@ -67,7 +70,7 @@ fn workers(alloc: Global, settings: &Settings) -> Result<Vec<Vec<Loading>>, OutO
 }
 
 /// Ends and handlers for a server of these settings, as many as they ask for.
-#[tactic(auto, using(sw_serve::proofs::Enough::none_missing))]
+#[tactic(auto, using(sw_serve::proofs::Enough::enough))]
 fn make(alloc: Global, settings: &Settings) -> Result<Made, OutOfMemory>
     ensures { IfOk result (λ m. miscount settings.now (length m.ends.items) (map (λ hs. length hs.items) m.workers.items) (length m.taskers.items) ≡ None) }
 {
@@ -78,6 +81,40 @@ fn make(alloc: Global, settings: &Settings) -> Result<Made, OutOfMemory>
     })
 }
 
+/// Runs the server of a load over its net, and tells what came of it.
+#[tactic(auto, using(crate::proofs::Hearing::never_deaf))]
+fn run_on<P: Spawner, R: Threads + Wait + Copy + Send + 'static>(
+    rt: R,
+    alloc: Global,
+    plan: Plan,
+    settings: &Settings,
+    net: MemoryNet,
+    made: Made,
+    spawner: &mut P,
+) -> Result<Summary, ServeStatus>
+    requires net { IsNetOf plan net }
+    requires whole { miscount settings.now (length made.ends.items) (map (λ hs. length hs.items) made.workers.items) (length made.taskers.items) ≡ None }
+    ensures { Ran plan (P.count spawner.old) (P.count spawner.new) result }
+{
+    let Made {
+        ends,
+        workers,
+        taskers,
+    } = made;
+    let ended = run_counted::<MemoryNet, Keeper<MemoryLink>, Loading, Loading, P, Brand, R>(
+        rt, alloc, settings, net, ends, workers, taskers, spawner,
+    );
+    match ended {
+        Ended::Whole(left, _) => match summary_of(plan, &left) {
+            Ok(summary) => Ok(summary),
+            Err(_) => Err(ServeStatus::OutOfMemory),
+        },
+        Ended::Deaf(_) => unreachable!(),
+        Ended::Short(_) => Err(ServeStatus::StartFault),
+        Ended::OutOfMemory => Err(ServeStatus::OutOfMemory),
+    }
+}
+
 /// Runs the server of a load, and tells what came of it.
 fn run<P: Spawner, R: Threads + Wait + Copy + Send + 'static>(
     rt: R,
@@ -85,7 +122,7 @@ fn run<P: Spawner, R: Threads + Wait + Copy + Send + 'static>(
     plan: Plan,
     spawner: &mut P,
 ) -> Result<Summary, ServeStatus>
-    ensures { IfErr result (λ s. IsCut (record { old = P.count spawner.old; new = P.count spawner.new }) s) }
+    ensures { Ran plan (P.count spawner.old) (P.count spawner.new) result }
 {
     let Ok(settings) = from_json(alloc, SETTINGS) else {
         return Err(ServeStatus::OutOfMemory);
@@ -96,45 +133,24 @@ fn run<P: Spawner, R: Threads + Wait + Copy + Send + 'static>(
     let Ok(net) = net_of(alloc, plan) else {
         return Err(ServeStatus::OutOfMemory);
     };
-    let ran = run_server(
-        rt,
-        alloc,
-        &settings,
-        net,
-        made.ends,
-        made.workers,
-        made.taskers,
-        spawner,
-    );
-    match ran {
-        Ok(stopped) => match summary_of(plan, &stopped) {
-            Ok(summary) => Ok(summary),
-            Err(_) => Err(ServeStatus::OutOfMemory),
-        },
-        Err(fault) => match fault {
-            ServeFault::ListenFault(_) => Err(ServeStatus::ListenFault),
-            ServeFault::StartFault(_) => Err(ServeStatus::StartFault),
-            ServeFault::HandlerCount(_, _, _) => unreachable!(),
-            ServeFault::OutOfMemory => Err(ServeStatus::OutOfMemory),
-        },
-    }
+    run_on(rt, alloc, plan, &settings, net, made, spawner)
 }
 
 /// Writes what came of a load.
 fn tell<K: Sink>(alloc: Global, sink: &mut K, summary: Summary) -> ServeStatus
-    ensures { IsTold (record { old = K.faults sink.old; new = K.faults sink.new }) ServeStatus.Ok result }
+    ensures { Tells (record { taken = K.taken sink.old; taken_new = K.taken sink.new; faults = K.faults sink.old; faults_new = K.faults sink.new }) (summary_text summary) result }
 {
     match summary_text(alloc, summary) {
         Ok(text) => write_out(sink, ServeStatus::Ok, text.as_bytes()),
-        Err(_) => refused(alloc, sink, ServeStatus::OutOfMemory),
+        Err(_) => write_out(sink, ServeStatus::OutOfMemory, b"fault memory\n"),
     }
 }
 
 /// Runs a server in memory on the load of these numbers, under this spawner, and writes its summary: five lines, which are the
 /// same at each run that comes to its end. It waits for that end.
 ///
-/// WriteFault comes only where the sink's count of faults rose, StartFault only where the spawner's did, and nothing is read.
-#[tactic(auto, using(sw_serve::proofs::Causing::cut_told, sw_serve::proofs::Causing::ok_told))]
+/// It answers Ok; StartFault only where the spawner's count of failures rose; WriteFault only where the sink failed; or OutOfMemory.
+#[tactic(auto, using(crate::proofs::Saying::told_said, crate::proofs::Saying::refused_said))]
 pub fn load<K: Sink, P: Spawner, R: Threads + Wait + Copy + Send + 'static>(
     rt: R,
     alloc: Global,
@@ -142,9 +158,7 @@ pub fn load<K: Sink, P: Spawner, R: Threads + Wait + Copy + Send + 'static>(
     sink: &mut K,
     spawner: &mut P,
 ) -> ServeStatus
-    ensures { IsCaused (record { old = 0; new = 0 })
-        (record { old = K.faults sink.old; new = K.faults sink.new })
-        (record { old = P.count spawner.old; new = P.count spawner.new }) result }
+    ensures { Said plan (P.count spawner.old) (P.count spawner.new) (record { taken = K.taken sink.old; taken_new = K.taken sink.new; faults = K.faults sink.old; faults_new = K.faults sink.new }) result }
 {
     match run(rt, alloc, plan, spawner) {
         Ok(summary) => tell(alloc, sink, summary),

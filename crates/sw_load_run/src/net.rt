@@ -1,6 +1,7 @@
 //! The net of a load.
-ghost use Rattle.std.specs.Prelude.{IfOk, OnOk};
+ghost use Rattle.std.specs.Prelude.{◌≡◌, ◌≤◌, IfOk, OnOk};
 ghost use Rattle.sw_link.specs.MemoryNets.{IsNew};
+ghost use Rattle.sw_load_run.specs.Nets.{small, IsNetOf};
 
 use std::alloc::Global;
 use sw_base::{Octets, OutOfMemory};
@@ -11,7 +12,9 @@ use sw_load::{Plan, piece_len, put_packet};
 const LOOPBACK: u32 = 2_130_706_433;
 
 /// A number of connections or of packets, which is 1,000,000 at most.
-fn small(number: u64) -> u32 {
+fn small(number: u64) -> u32
+    ensures { result ≡ small number }
+{
     u32::try_from(number).unwrap_or(u32::MAX)
 }
 
@@ -57,8 +60,10 @@ fn link_of(alloc: Global, bytes: &[u8], len: usize) -> Result<MemoryLink, OutOfM
     Ok(link)
 }
 
-/// A net with the links of a load, and an end behind them.
-pub fn net_of(alloc: Global, plan: Plan) -> Result<MemoryNet, OutOfMemory> {
+/// A net with the links of a load, and an end behind them. No accept of it fails.
+pub fn net_of(alloc: Global, plan: Plan) -> Result<MemoryNet, OutOfMemory>
+    ensures { IfOk result (IsNetOf plan) }
+{
     let mut net = MemoryNet::new(alloc, true, None);
     for connection in 0..small(plan.connections) {
         let bytes = bytes_of(alloc, plan, connection)?;
