@@ -1,4 +1,5 @@
 pub mod Accepting
+pub mod Ending
 pub mod Enough
 pub mod Reading
 pub mod Saying

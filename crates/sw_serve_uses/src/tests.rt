@@ -95,6 +95,42 @@ fn six_bytes_come_back_over_sockets(rt: HostRuntime) -> Result<(), Fail> {
 }
 
 #[test]
+fn whole_requests_come_back_over_sockets(rt: HostRuntime) -> Result<(), Fail> {
+    let alloc = rt.alloc();
+    let mut net = MioNet::new(rt, 0, Some(1));
+    let port = net.listen().expect(&rt, "a port of loopback");
+    let peer = thread::spawn(
+        &rt,
+        move || ask(
+            &rt,
+            rt.alloc(),
+            port,
+            b"GET / HTTP/1.1\r\nHost: a\r\n\r\nGET /b",
+        )
+        .ok(),
+    )?;
+    let mut text = Vec::new(alloc);
+    text.extend_from_slice(b"{\"open_http_protocol\":true}\non packet - : send self data\n")?;
+    let mut source = SureSource::new(text);
+    let mut sink = MemorySink::new(alloc, Vec::new(alloc));
+    let ends = vec![in alloc; Dropper::new(); 65]?;
+    let served = serve(
+        rt,
+        alloc,
+        &mut source,
+        &mut sink,
+        net,
+        ends,
+        &mut Threads {},
+    );
+    assert!(rt; served.status.number() == 0);
+    assert!(rt; sink.bytes() == b"served 1\n".as_slice());
+    let answer = peer.join(&rt).expect(&rt, "an answer");
+    assert!(rt; answer.as_slice() == b"GET / HTTP/1.1\r\nHost: a\r\n\r\n".as_slice());
+    Ok(())
+}
+
+#[test]
 fn six_rounds_are_too_few(rt: HostRuntime) -> Result<(), Fail> {
     let settings = settings(rt.alloc(), b"{}").expect(&rt, "settings");
     let net = net_of(rt.alloc(), 4, &[b"a"]).ok().expect(&rt, "memory");
