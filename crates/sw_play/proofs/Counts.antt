@@ -6,9 +6,8 @@ use Rattle.std.proofs.lemmas.List.Elements.{All-head, All-tail, All-weaker}
 use Rattle.sw_lists.proofs.Lists.{eq_other}
 use Rattle.sw_settings.specs.declared.values.Values.{Values}
 use Rattle.sw_world_make.specs.declared.fault.Part.{Part}
-use Rattle.sw_world_make.specs.declared.fault.Part.TheVariants.{Workers, Taskers, Generations}
+use Rattle.sw_world_make.specs.declared.fault.Part.TheVariants.{Workers, Taskers}
 use Rattle.sw_world_make.specs.declared.fault.WorldFault.{WorldFault}
-use Rattle.sw_world_make.specs.declared.fault.WorldFault.TheVariants.{Count}
 use Rattle.sw_world_make.specs.Faults.{or_next, unhandled, count_fault}
 use Rattle.sw_following.specs.Following.{Many}
 

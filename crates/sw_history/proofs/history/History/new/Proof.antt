@@ -1,5 +1,5 @@
 -- `new` makes the struct without fields, and its pieces are none.
-use Rattle.sw_history.proofs.Walks.{[], ◌∷◌, refl, proved, vstruct, vnil, ‵, raw, ◌⊛◌, ◌$◌, ◌∵◌, !, qed, done, move, keep, split, suffices, agg, enter, returns, no_more, alloc_all, pass_all, free_all, look_at, sets, owns, pure_i, types_at, alive, walk_of, says, ends_at}
+use Rattle.sw_history.proofs.Walks.{◌∷◌, refl, proved, vstruct, vnil, ‵, raw, ◌⊛◌, ◌$◌, ◌∵◌, !, qed, done, move, keep, split, suffices, agg, enter, returns, no_more, alloc_all, pass_all, free_all, look_at, sets, owns, pure_i, types_at, alive, walk_of, says, ends_at}
 use Rattle.sw_history.specs.contracts.history.History as history
 use Rattle.sw_history.specs.contracts.history.History.new as f
 use Rattle.sw_history.proofs.history.History.new.Statement.{statement}

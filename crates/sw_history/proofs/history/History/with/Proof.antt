@@ -1,5 +1,5 @@
 -- `with` makes the struct without fields, and its pieces are those that were there with one more.
-use Rattle.sw_history.proofs.Walks.{ℕ, List, [], ◌∷◌, ◌++◌, refl, proved, named, vstruct, vnil, ‵, raw, ◌⊛◌, ◌$◌, ◌∵◌, !, qed, done, move, keep, split, suffices, agg, enter, returns, no_more, alloc_all, pass_all, free_all, look_at, sets, u8, yes, owns, shr_vals, shr_Tells, pure_i, plain, types_at, shr_slice_vals, shr_slice_Tells, alive, Stays, walk_of, says, stay_none_ref, stay_none_slice, Goes-none_ref, Goes-none_slice, ends_at}
+use Rattle.sw_history.proofs.Walks.{ℕ, List, ◌∷◌, ◌++◌, refl, proved, named, vstruct, vnil, ‵, raw, ◌⊛◌, ◌$◌, ◌∵◌, !, qed, done, move, keep, split, suffices, agg, enter, returns, no_more, alloc_all, pass_all, free_all, look_at, sets, u8, yes, owns, shr_vals, shr_Tells, pure_i, plain, types_at, shr_slice_vals, shr_slice_Tells, alive, Stays, walk_of, says, stay_none_ref, stay_none_slice, Goes-none_ref, Goes-none_slice, ends_at}
 use Rattle.sw_history.specs.contracts.history.History as history
 use Rattle.sw_history.specs.contracts.history.History.with as f
 use Rattle.sw_history.proofs.history.History.with.Statement.{statement}
