@@ -36,7 +36,7 @@ struct Load {
 }
 
 /// What is measured of a verb on these rows.
-fn load(alloc: Global, verb: Verb, rows: Rows) -> Result<Load, OutOfMemory> {
+fn load_of(alloc: Global, verb: Verb, rows: Rows) -> Result<Load, OutOfMemory> {
     let before = lists(alloc, Verb::Set, rows)?;
     let calls = lists(alloc, verb, rows)?;
     Ok(Load { before, calls })
@@ -115,7 +115,7 @@ fn verb_figures<R: Print + Clock + Threads + Wait + Sync>(
 ) -> io::Result<()>
     requires { threads < 1000 }
 {
-    let Ok(load) = load(alloc, verb, rows) else {
+    let Ok(load) = load_of(alloc, verb, rows) else {
         return println!(rt; "{NO_MEMORY}");
     };
     println!(rt;
