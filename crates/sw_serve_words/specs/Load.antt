@@ -3,7 +3,9 @@ use Rattle.std.specs.Prelude.{ℕ, if◌then◌else◌, codes, List, [], ◌∷�
 use Rattle.std.specs.Str.{bytes_eq}
 use Rattle.sw_load.specs.declared.plan.Plan.{Plan}
 use Rattle.sw_load.specs.Plans.{planned}
+use Rattle.sw_text.specs.Numbers.{number_within}
 use Rattle.sw_serve_words.specs.declared.load.LoadWords.{LoadWords}
+use Rattle.sw_serve_words.specs.Unset.{unset}
 
 -- nothing is named
 abbrev pub no_load : LoadWords

@@ -3,6 +3,7 @@ use Rattle.std.specs.Prelude.{ℕ, if◌then◌else◌, codes, List, [], ◌∷�
 use Rattle.std.specs.Str.{bytes_eq}
 use Rattle.sw_text.specs.Numbers.{number_within}
 use Rattle.sw_serve_words.specs.declared.serve.ServeWords.{ServeWords}
+use Rattle.sw_serve_words.specs.Unset.{unset}
 
 -- nothing is named
 abbrev pub no_serve : ServeWords
