@@ -15,7 +15,7 @@ const LOOPBACK: u32 = 2_130_706_433;
 fn small(number: u64) -> u32
     ensures { result ≡ small number }
 {
-    u32::try_from(number).unwrap_or(u32::MAX)
+    number.min(u32::MAX as u64) as u32
 }
 
 /// All bytes that a connection sends.

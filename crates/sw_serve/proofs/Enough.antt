@@ -50,9 +50,11 @@ workers_sized s v (Plain ws) h = sized (λ hs. hs.items) (IsFresh s) v.worker_nu
 workers_sized s v (Asked ws) h = sized (λ hs. hs.items) (IsFreshAsked s v.package_max_length) v.worker_num v.generation_num ws.items h.1
 
 -- a crew for an input has all that a server needs
-pub none_missing : {E : Type 0} (i : Input) (ends : List E) (c : Crew E) → i.settings.reactor_num + 1 ≤ length ends → IsCrewFor i ends c → miscount i.settings (length c.ends.items) (sizes_of c.workers) (length c.taskers.items) ≡ None
-none_missing i ends c room h =
+pub none_missing : {E : Type 0} (i : Input) (ends : List E) (c : Crew E) → IsCrewFor i ends c → miscount i.settings (length c.ends.items) (sizes_of c.workers) (length c.taskers.items) ≡ None
+none_missing i ends c h =
     enough i.settings (length c.ends.items) (sizes_of c.workers) (length c.taskers.items)
-    (ap length h.are_ends ∙ length-take-le (i.settings.reactor_num + 1) ends room)
-    (workers_sized i.script i.settings c.workers h.workers)
-    h.taskers.0
+    h.enough_ends (workers_sized i.script i.settings c.workers h.workers) h.taskers.0
+
+-- so many of a list that has as many
+pub taken : {E : Type 0} (need given : ℕ) (ends some : List E) → need ≡ given → some ≡ take (given + 1) ends → given + 1 ≤ length ends → length some ≡ need + 1
+taken need given ends some same is room = ap length is ∙ length-take-le (given + 1) ends room ∙ ap (λ n. n + 1) (sym same)

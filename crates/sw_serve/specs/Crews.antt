@@ -25,3 +25,4 @@ pub record IsCrewFor {E : Type 0} (i : Input) (ends : List E) (c : Crew E) : Typ
   pub workers : AreWorkersFor i.script i.settings c.workers
   pub taskers : AreFresh i.script i.settings.task_worker_num c.taskers.items
   pub are_ends : c.ends.items ≡ take (i.settings.reactor_num + 1) ends
+  pub enough_ends : length c.ends.items ≡ i.settings.reactor_num + 1

@@ -42,7 +42,8 @@ fn workers_for(alloc: Global, input: &Input) -> Result<Workers, OutOfMemory>
 }
 
 /// Handlers and ends for a server of this input, as many as its settings ask for; the ends are the first of these.
-pub(crate) fn crew<E: Drop>(
+#[tactic(auto, using(crate::proofs::Enough::taken))]
+pub(crate) fn crew_for<E: Drop>(
     alloc: Global,
     input: &Input,
     mut ends: Vec<E>,

@@ -55,6 +55,7 @@ fn uncounted<N: Net + Drop, J: First<N>, E, H, T>(
 
 /// Runs a server of these parts, of which none is missing. `J` says which net it is; accepts of that one led to the net that is left.
 /// Deaf comes only where the net's count of faults rose, Short only where the spawner's did.
+#[tactic(auto, using(crate::proofs::Ending::deaf, crate::proofs::Ending::short))]
 pub fn run_counted<
     N: Net + Drop + Send + 'static,
     E: Ends<N::Link> + Drop + Send + 'static,

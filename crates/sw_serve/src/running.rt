@@ -4,7 +4,7 @@ ghost use Rattle.sw_run.specs.Counts.{miscount};
 ghost use Rattle.sw_serve.specs.Crews.{sizes_of};
 ghost use Rattle.sw_serve.specs.Stops.{stop_of, StopsBy};
 
-use crate::crew::{Crew, Workers, crew};
+use crate::crew::{Crew, Workers, crew_for};
 use crate::ended::{Ended, run_counted};
 use crate::input::Input;
 use std::alloc::Global;
@@ -43,7 +43,6 @@ fn stop_of<N: Net + Drop, E: Drop, H: Drop, T: Drop>(ended: Ended<N, E, H, T>) -
 }
 
 /// Runs a server with these workers, of whichever kind they are.
-#[tactic(auto, using(crate::proofs::Stopping::stops))]
 fn run_with<
     N: Net + Drop + Send + 'static,
     E: Ends<N::Link> + Drop + Send + 'static,
@@ -81,7 +80,6 @@ where
 }
 
 /// Runs the server that an input asks for.
-#[tactic(auto, using(crate::proofs::Enough::none_missing))]
 pub(crate) fn run<
     N: Net + Drop + Send + 'static,
     E: Ends<N::Link> + Drop + Send + 'static,
@@ -93,7 +91,7 @@ where
     requires { 65 ≤ length ends.items }
     ensures { StopsBy N.accept_gives N.faults net (P.count spawner.old) (P.count spawner.new) result }
 {
-    let Ok(crew) = crew(alloc, input, ends) else {
+    let Ok(crew) = crew_for(alloc, input, ends) else {
         return Stop::OutOfMemory;
     };
     let Crew {

@@ -51,7 +51,7 @@ pub struct Served<N> {
 }
 
 /// Reads, runs and writes.
-#[tactic(auto, using(crate::proofs::Saying::unread_does, crate::proofs::Saying::whole_does, crate::proofs::Saying::deaf_does, crate::proofs::Saying::short_does, crate::proofs::Saying::lost_does))]
+#[tactic(auto, using(crate::proofs::Saying::unread_does, crate::proofs::Saying::lost_does))]
 fn work<
     S: Source,
     K: Sink,
@@ -88,14 +88,20 @@ where
             status: tell(alloc, sink, count),
             net: Some(net),
         },
-        Stop::Deaf(net) => Served {
-            status: refused(alloc, sink, ServeStatus::ListenFault),
-            net: Some(net),
-        },
-        Stop::Short(net) => Served {
-            status: refused(alloc, sink, ServeStatus::StartFault),
-            net: Some(net),
-        },
+        Stop::Deaf(net) => {
+            let deaf = refused(alloc, sink, ServeStatus::ListenFault);
+            Served {
+                status: deaf,
+                net: Some(net),
+            }
+        }
+        Stop::Short(net) => {
+            let short = refused(alloc, sink, ServeStatus::StartFault);
+            Served {
+                status: short,
+                net: Some(net),
+            }
+        }
         Stop::OutOfMemory => Served {
             status: refused(alloc, sink, ServeStatus::OutOfMemory),
             net: None,

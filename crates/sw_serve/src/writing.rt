@@ -47,9 +47,9 @@ fn settings_text(
     let text = refusal.text(alloc)?;
     match refusal {
         Refusal::Settings(fault) => Ok((fault, text)),
-        Refusal::Line(_) => unreachable!(),
-        Refusal::Place(_) => unreachable!(),
-        Refusal::Unfit(_, _) => unreachable!(),
+        Refusal::Line(_line) => unreachable!(),
+        Refusal::Place(_at) => unreachable!(),
+        Refusal::Unfit(_line, _name) => unreachable!(),
     }
 }
 
