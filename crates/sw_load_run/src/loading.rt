@@ -109,8 +109,8 @@ fn run_on<P: Spawner, R: Threads + Wait + Copy + Send + 'static>(
             Ok(summary) => Ok(summary),
             Err(_) => Err(ServeStatus::OutOfMemory),
         },
-        Ended::Deaf(_) => unreachable!(),
-        Ended::Short(_) => Err(ServeStatus::StartFault),
+        Ended::Deaf(_deaf) => unreachable!(),
+        Ended::Short(_short) => Err(ServeStatus::StartFault),
         Ended::OutOfMemory => Err(ServeStatus::OutOfMemory),
     }
 }
@@ -150,7 +150,6 @@ fn tell<K: Sink>(alloc: Global, sink: &mut K, summary: Summary) -> ServeStatus
 /// same at each run that comes to its end. It waits for that end.
 ///
 /// It answers Ok; StartFault only where the spawner's count of failures rose; WriteFault only where the sink failed; or OutOfMemory.
-#[tactic(auto, using(crate::proofs::Saying::told_said, crate::proofs::Saying::refused_said))]
 pub fn load<K: Sink, P: Spawner, R: Threads + Wait + Copy + Send + 'static>(
     rt: R,
     alloc: Global,
