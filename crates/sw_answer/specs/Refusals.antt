@@ -1,16 +1,11 @@
 -- Why an input is refused, and what is written then.
 use Rattle.std.specs.Prelude.{◌≡◌, ◌++◌, ℕ, List, [], codes, Bool, true, false, Option, Some, None, Result, Ok, Err}
-use Rattle.std.specs.Option.{option_or}
 use Rattle.std.specs.Fmt.{decimal}
 use Rattle.sw_text.specs.Hex.{hex}
 use Rattle.sw_column.specs.declared.column.ColumnFault.{ColumnFault}
 use Rattle.sw_column.specs.declared.column.ColumnFault.TheVariants as columns
-use Rattle.sw_settings.specs.declared.pair.Pair.{Pair}
 use Rattle.sw_settings.specs.declared.faults.SettingsFault.{SettingsFault}
 use Rattle.sw_settings.specs.declared.faults.SettingsFault.TheVariants.{NotJson, Unknown, BadType, Range, Missing, Conflict, Column, OutOfMemory}
-use Rattle.sw_settings.specs.declared.values.Values.{Values}
-use Rattle.sw_settings.specs.Values.{values_of}
-use Rattle.sw_settings.specs.Faults.{core_fault, fault_of}
 use Rattle.sw_answer.specs.declared.refusal.Refusal.{Refusal}
 use Rattle.sw_audit.specs.declared.verdict.Verdict.TheVariants as verdicts
 use Rattle.sw_audit.specs.Printing.{verdict_text}

@@ -7,15 +7,14 @@ use Rattle.sw_base.specs.declared.table.Value.{Value}
 use Rattle.sw_base.specs.declared.table.Call.{Call}
 use Rattle.sw_base.specs.declared.table.Reply.{Reply}
 use Rattle.sw_column.specs.declared.column.Column.{Column}
-use Rattle.sw_table_laws.specs.Table.{State, Step}
+use Rattle.sw_table_laws.specs.Table.{Step}
 use Rattle.sw_table_laws.specs.Buckets.{has_spare, may_put, write_asks, asks_pool, bucket_step}
-use Rattle.sw_rowlock.specs.declared.calls.Change.{Change}
 use Rattle.sw_rowlock.specs.declared.calls.Change.TheVariants.{Same, More, Less}
 use Rattle.sw_table_join.specs.Calls.{change_from}
 use Rattle.sw_row.specs.Packed.{Packed}
 use Rattle.sw_chain.specs.Rows.{found}
-use Rattle.sw_bucket.specs.Rows.{rows_by, row_at, IsBucket}
-use Rattle.sw_bucket.specs.Turns.{put_step, Removes, Puts, Writes, Numbers}
+use Rattle.sw_bucket.specs.Rows.{rows_by, IsBucket}
+use Rattle.sw_bucket.specs.Turns.{Removes, Puts, Writes, Numbers}
 use Rattle.sw_bucket.proofs.Listed.{get_found, get_missing, len_rows, stands_at}
 use Rattle.sw_bucket.proofs.Done.{put_is, full_is, len_put_new, len_put_old, len_removed}
 

@@ -16,7 +16,7 @@ use Rattle.sw_table_laws.specs.Laws.{key_of}
 use Rattle.sw_row.specs.Packed.{Packed}
 use Rattle.sw_chain.specs.Rows.{found, without}
 use Rattle.sw_bucket.specs.Rows.{rows_by, row_at, IsBucket, IsPlaced, IsWritten}
-use Rattle.sw_bucket.specs.Turns.{put_step, Answers, Leaves, Removes, Puts, IsDone}
+use Rattle.sw_bucket.specs.Turns.{put_step, Answers, Removes, Puts, IsDone}
 use Rattle.sw_bucket.proofs.Listed.{get_found, get_missing, len_rows, without_is, out_rows, out_bucket}
 
 -- ---- what asking for the pool tells

@@ -11,13 +11,12 @@ use Rattle.std.proofs.lemmas.List.{take-map, drop-map, map-append, length-map, l
 use Rattle.std.proofs.lemmas.List.Elements.{All-nil, All-cons, All-head, All-tail, All-append, All-take, All-drop}
 use Rattle.sw_base.specs.declared.table.Value.{Value}
 use Rattle.sw_column.specs.declared.column.Column.{Column}
-use Rattle.sw_column.specs.Values.{IsRow, holds}
-use Rattle.sw_table_laws.specs.Table.{State}
+use Rattle.sw_column.specs.Values.{holds}
 use Rattle.sw_table_laws.proofs.Maps.{eq_of, eq_self, apart, same_state, get_inserted}
 use Rattle.sw_table_laws.proofs.RowLaws.{row_set}
-use Rattle.sw_tmodel.specs.Store.{Distinct, state_of}
+use Rattle.sw_tmodel.specs.Store.{Distinct}
 use Rattle.sw_tmodel.proofs.StoreSteps.{Entry, lookup, found as entry_found, get_listed, len_listed, pushed, put, put_distinct, taken_out, remove_distinct}
-use Rattle.sw_row.specs.Packed.{Packed, unpacked}
+use Rattle.sw_row.specs.Packed.{Packed}
 use Rattle.sw_chain.specs.Rows.{found, without, without_at, with_second, with_value}
 use Rattle.sw_bucket.specs.Rows.{entry_of, rows_by, row_at, IsPacked, IsBucket}
 

@@ -5,14 +5,13 @@ use Rattle.std.specs.FinMap as fin
 use Rattle.std.specs.Str.{bytes_eq}
 use Rattle.sw_base.specs.declared.table.Value.{Value}
 use Rattle.sw_base.specs.declared.table.Value.TheVariants as values
-use Rattle.sw_base.specs.declared.table.CallFault.{CallFault}
 use Rattle.sw_column.specs.declared.column.Column.{Column}
 use Rattle.sw_column.specs.Columns.{place, column_of, IsSchema}
 use Rattle.sw_column.specs.Fit.{is_key, at_column, value_fault}
 use Rattle.sw_column.specs.declared.column.Kind.{Kind}
 use Rattle.sw_column.specs.declared.column.Kind.TheVariants as kinds
 use Rattle.sw_column.specs.Values.{blank, holds, is_of_kind, HasKinds, IsRow}
-use Rattle.sw_table_laws.specs.Rows.{cut_at_size, size_in, written_at, with_value, with_pairs}
+use Rattle.sw_table_laws.specs.Rows.{cut_at_size, size_in, written_at, with_value}
 use Rattle.sw_table_laws.specs.Table.{State}
 use Rattle.sw_table_laws.specs.Buckets.{row_in}
 use Rattle.sw_table_laws.proofs.RowLaws.{value_holds, blank_row, column_there}
@@ -22,8 +21,8 @@ use Rattle.sw_row.specs.Layout.{column_size}
 use Rattle.sw_row.specs.Packed.{Packed}
 use Rattle.sw_chain.specs.Rows.{found, with_second}
 use Rattle.sw_chain.specs.Rows as chain
-use Rattle.sw_bucket.specs.Rows.{entry_of, rows_by, row_at, IsPacked, IsBucket, IsPlaced, IsWritten}
-use Rattle.sw_bucket.proofs.Listed.{stands_at, got, get_at, get_found, get_missing, no_bucket, one_bucket, one_rows, second_rows, second_bucket, value_rows, value_bucket, value_row, packed_at}
+use Rattle.sw_bucket.specs.Rows.{rows_by, row_at, IsPacked, IsBucket, IsPlaced, IsWritten}
+use Rattle.sw_bucket.proofs.Listed.{stands_at, get_at, get_found, get_missing, one_bucket, one_rows, second_rows, second_bucket, value_rows, value_bucket, value_row, packed_at}
 
 -- the row with which a missing key starts
 abbrev pub fresh : List Column → List ℕ → Packed

@@ -6,25 +6,24 @@ use Rattle.std.specs.FinMap as fin
 use Rattle.sw_base.specs.declared.table.Value.{Value}
 use Rattle.sw_base.specs.declared.table.Value.TheVariants as values
 use Rattle.sw_base.specs.declared.table.Call.{Call}
-use Rattle.sw_base.specs.declared.table.Call.TheVariants.{Set, Get, Exist, Del, Incr, Decr, Count}
+use Rattle.sw_base.specs.declared.table.Call.TheVariants.{Set, Get, Exist, Del, Incr, Decr}
 use Rattle.sw_base.specs.declared.table.CallFault.{CallFault}
 use Rattle.sw_base.specs.declared.table.CallFault.TheVariants as faults
-use Rattle.sw_base.specs.declared.table.Reply.{Reply}
 use Rattle.sw_base.specs.declared.table.Reply.TheVariants as replies
-use Rattle.sw_base.specs.declared.table.Reply.TheVariants.{Stored, Full, Found, Missing, Yes, No, Range}
+use Rattle.sw_base.specs.declared.table.Reply.TheVariants.{Stored, Full, Missing, Yes, No, Range}
 use Rattle.sw_column.specs.declared.column.Column.{Column}
 use Rattle.sw_column.specs.Columns.{place, column_of, IsSchema}
 use Rattle.sw_column.specs.Fit.{fits, is_key, pairs_fault, counter_fault, call_fault}
 use Rattle.sw_column.specs.Values.{blank}
 use Rattle.sw_table_laws.specs.Rows.{with_value, with_pairs, number_in, number_at, number_of, size_in, size_of}
-use Rattle.sw_table_laws.specs.Table.{State, Shape, Step, answers, set_step, get_step, del_step, add_step, add, may_write, shown_for}
+use Rattle.sw_table_laws.specs.Table.{State, Shape, Step, answers, set_step, get_step, del_step, add_step, may_write}
 use Rattle.sw_table_laws.specs.Buckets.{row_in, may_put, add_in, write_asks, asks_pool, bucket_step}
 use Rattle.sw_table_laws.specs.Laws.{key_of}
 use Rattle.sw_table_laws.proofs.Numbers.{zero_of, out_of_range}
 use Rattle.sw_row.specs.Packed.{Packed}
 use Rattle.sw_chain.specs.Rows.{found}
 use Rattle.sw_bucket.specs.Rows.{rows_by, row_at, IsBucket}
-use Rattle.sw_bucket.specs.Turns.{put_step, IsTurn, number_turn, Answers, Leaves, Shows, Removes, Puts, Writes, Numbers}
+use Rattle.sw_bucket.specs.Turns.{put_step, IsTurn, number_turn, Leaves, Shows, Removes, Writes, Numbers}
 use Rattle.sw_bucket.proofs.Listed.{stands_at, get_found, get_missing, len_rows}
 
 -- ---- calls that only look

@@ -9,24 +9,24 @@ use Rattle.sw_base.specs.declared.table.Call.{Call}
 use Rattle.sw_base.specs.declared.table.Call.TheVariants.{Set}
 use Rattle.sw_base.specs.declared.table.Reply.{Reply}
 use Rattle.sw_base.specs.declared.table.Reply.TheVariants as replies
-use Rattle.sw_base.specs.declared.table.Reply.TheVariants.{Stored, Full, Found, Yes}
+use Rattle.sw_base.specs.declared.table.Reply.TheVariants.{Stored, Found}
 use Rattle.sw_column.specs.declared.column.Column.{Column}
 use Rattle.sw_column.specs.declared.column.Kind.{Kind}
 use Rattle.sw_column.specs.declared.column.Kind.TheVariants as kinds
 use Rattle.sw_column.specs.Columns.{place, column_of}
 use Rattle.sw_column.specs.Fit.{fits, is_key, pairs_fault, counter_fault, counter_kind}
 use Rattle.sw_column.specs.Values.{holds}
-use Rattle.sw_table_laws.specs.Rows.{size_in, size_of, written_at, with_value, with_pairs}
-use Rattle.sw_table_laws.specs.Table.{State, Step, shown, shown_for}
+use Rattle.sw_table_laws.specs.Rows.{size_in, written_at, with_value, with_pairs}
+use Rattle.sw_table_laws.specs.Table.{Step, shown, shown_for}
 use Rattle.sw_table_laws.specs.Buckets.{PoolNow, row_in, may_put, asks_pool, bucket_step, pool_left}
 use Rattle.sw_table_laws.specs.Laws.{key_of}
 use Rattle.sw_table_laws.proofs.RowLaws.{place_within}
 use Rattle.sw_row.specs.Packed.{Packed}
-use Rattle.sw_chain.specs.Rows.{found, without}
-use Rattle.sw_bucket.specs.Rows.{rows_by, row_at, IsPacked, IsBucket, IsPlaced, IsWritten}
-use Rattle.sw_bucket.specs.Turns.{Answers, Leaves, Shows, Removes, Puts, Writes, Numbers, IsDone}
-use Rattle.sw_bucket.proofs.Listed.{len_rows, packed_at, got}
-use Rattle.sw_bucket.proofs.Done.{alone_room, asked_room, may_alone, may_behind, done_answer, shown_answer, put_is, full_is, done_put, done_full, done_remove, len_put_new, len_removed, pool_by}
+use Rattle.sw_chain.specs.Rows.{found}
+use Rattle.sw_bucket.specs.Rows.{rows_by, row_at, IsBucket, IsPlaced, IsWritten}
+use Rattle.sw_bucket.specs.Turns.{Leaves, Shows, Removes, Puts, Writes, Numbers, IsDone}
+use Rattle.sw_bucket.proofs.Listed.{len_rows, packed_at}
+use Rattle.sw_bucket.proofs.Done.{alone_room, asked_room, may_behind, shown_answer, put_is, full_is, done_put, len_put_new, len_removed, pool_by}
 
 same_key : (a b : List ℕ) (o : Option (List ℕ)) → o ≡ Some a → o ≡ Some b → a ≡ b
 same_key a b o e d = cc

@@ -13,8 +13,8 @@ use Rattle.sw_base.specs.declared.table.Call.TheVariants.{Set, Get, Exist, Del, 
 use Rattle.sw_call.specs.declared.verbs.Verb.{Verb}
 use Rattle.sw_call.specs.declared.verbs.Verb.TheVariants as verbs
 use Rattle.sw_call.specs.Calls.{set_of, incr_of, decr_of, verb_named, with_text, verb_parts, verb_of, call_on, keyed_of, call_of}
-use Rattle.sw_log_text.specs.Calls.{pair_text, keyed_text, set_text, step_text, call_text}
-use Rattle.sw_call_texts.specs.Spelled.{AreBytes, IsPair, IsKeyText, IsStepText, IsCall}
+use Rattle.sw_log_text.specs.Calls.{keyed_text, set_text, step_text, call_text}
+use Rattle.sw_call_texts.specs.Spelled.{IsPair, IsKeyText, IsStepText, IsCall}
 use Rattle.sw_call_texts.proofs.Peel.{first_of}
 use Rattle.sw_call_texts.proofs.Cuts.{Without, behind, cut_plain, cut_none, cut_joins, part_plain, part_is, without_test}
 use Rattle.sw_call_texts.proofs.Words.{without_low, hex_word}

@@ -3,7 +3,7 @@ use Rattle.std.proofs.Common.{◌≡◌, ℕ, Bool, true, false, cond, ◌&&◌,
 use Rattle.std.specs.Prelude.{not}
 use Rattle.std.specs.List.{AllByRecursion, list_all}
 use Rattle.std.proofs.lemmas.Bool.{eqb-true, eqb-false, eq-eqb, ne_eqb}
-use Rattle.sw_text.specs.Parts.{onto, cut_at, parted, part_at, onto_first, lines_of}
+use Rattle.sw_text.specs.Parts.{onto, cut_at, parted, part_at, lines_of}
 
 -- no byte of the text is the separator
 abbrev pub Without : ℕ → List ℕ → Type 0

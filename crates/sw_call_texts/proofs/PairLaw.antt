@@ -4,20 +4,20 @@ use Rattle.std.specs.Prelude.{codes}
 use Rattle.std.specs.Fmt.{signed_decimal}
 use Rattle.std.specs.List.{AllByRecursion, flat_map}
 use Rattle.sw_text.specs.Then.{◌>>=◌}
-use Rattle.sw_text.specs.Numbers.{signed_of, FitsSigned}
+use Rattle.sw_text.specs.Numbers.{signed_of}
 use Rattle.sw_text.specs.Parts.{part_at}
 use Rattle.sw_text.proofs.AgreeLaw.{signed}
 use Rattle.sw_base.specs.declared.table.Value.{Value}
 use Rattle.sw_column.specs.Columns.{is_name}
 use Rattle.sw_call.specs.Values.{value_of}
-use Rattle.sw_call.specs.Calls.{name_of, pair_of, pairs_of, pairs_behind, step_of, step_behind}
+use Rattle.sw_call.specs.Calls.{name_of, pair_of, pairs_behind, step_of, step_behind}
 use Rattle.sw_log_text.specs.Values.{value_text}
 use Rattle.sw_log_text.specs.Calls.{pair_text}
-use Rattle.sw_call_texts.specs.Spelled.{IsValue, IsPair, IsStepText}
+use Rattle.sw_call_texts.specs.Spelled.{IsPair, IsStepText}
 use Rattle.sw_call_texts.proofs.Peel.{first_of, kept_by}
 use Rattle.sw_call_texts.proofs.Cuts.{Without, without-append, behind, part_plain, part_is, joined_at}
 use Rattle.sw_call_texts.proofs.Items.{IsReadSo, IsReadBack, items_spelled, items_back, printed_more}
-use Rattle.sw_call_texts.proofs.Words.{IsWord, without_low, without_mid, name_word, value_word, name_plain}
+use Rattle.sw_call_texts.proofs.Words.{without_low, without_mid, name_word, value_word, name_plain}
 use Rattle.sw_call_texts.proofs.ValueLaw.{value_back, value_is}
 
 -- ---- pairs

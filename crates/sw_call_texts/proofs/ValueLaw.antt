@@ -7,7 +7,7 @@ use Rattle.std.proofs.lemmas.Bool.{eqb-true, ne_eqb}
 use Rattle.std.proofs.lemmas.Fmt.{digits_decimal}
 use Rattle.sw_text.specs.Then.{◌>>=◌}
 use Rattle.sw_text.specs.Numbers.{signed_of, FitsSigned}
-use Rattle.sw_text.specs.Hex.{hex, bytes_of}
+use Rattle.sw_text.specs.Hex.{hex}
 use Rattle.sw_text.proofs.NumberLaw.{AreDigits, own}
 use Rattle.sw_text.proofs.AgreeLaw.{signed, bytes}
 use Rattle.sw_base.specs.declared.table.Value.{Value}

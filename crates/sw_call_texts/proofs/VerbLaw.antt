@@ -8,13 +8,11 @@ use Rattle.std.proofs.lemmas.List.{append-nil}
 use Rattle.std.proofs.lemmas.Slice.Eq.{bytes_eq-Decides}
 use Rattle.sw_text.specs.Then.{◌>>=◌}
 use Rattle.sw_text.specs.Hex.{hex, bytes_text}
-use Rattle.sw_base.specs.declared.table.Value.{Value}
-use Rattle.sw_base.specs.declared.table.Call.{Call}
 use Rattle.sw_call.specs.declared.verbs.Verb.{Verb}
 use Rattle.sw_call.specs.declared.verbs.Verb.TheVariants as verbs
 use Rattle.sw_call.specs.Calls.{pairs_behind, set_of, alone, step_behind, incr_of, decr_of, verb_named, call_on}
 use Rattle.sw_log_text.specs.Calls.{pair_text, keyed_text, set_text, step_text, call_text}
-use Rattle.sw_call_texts.specs.Spelled.{IsPair, IsKeyText, IsStepText, IsCall}
+use Rattle.sw_call_texts.specs.Spelled.{IsKeyText, IsStepText, IsCall}
 use Rattle.sw_call_texts.proofs.Peel.{first_of}
 use Rattle.sw_call_texts.proofs.Cuts.{behind}
 use Rattle.sw_call_texts.proofs.Words.{name_plain}

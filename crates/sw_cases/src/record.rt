@@ -2,8 +2,8 @@
 
 use std::alloc::{AllocError, Global};
 use sw_base::{Octets, OutOfMemory, Pieces, Session};
-use sw_thin_data::{Act, Answer, Cause, Ended, Event, Given, Log};
-use sw_thin_record::{LinkRecord, LinkState, Links, Logs, Record};
+use sw_data::{Act, Answer, Cause, Ended, Event, Given, Log};
+use sw_record::{LinkRecord, LinkState, Links, Logs, Record};
 
 fn octets(alloc: Global, bytes: &[u8]) -> Result<Octets, AllocError> {
     Ok(Octets::of(Vec::from_slice(alloc, bytes)?))
@@ -68,5 +68,9 @@ pub fn record(alloc: Global) -> Result<Record, OutOfMemory> {
         }
         None => Links::new(alloc),
     };
-    Ok(Record { links, workers })
+    Ok(Record {
+        links,
+        workers,
+        taskers: Logs::new(alloc),
+    })
 }

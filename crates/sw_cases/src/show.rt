@@ -4,7 +4,7 @@ use crate::output::put_lines;
 use crate::record::record;
 use std::alloc::{AllocError, Global};
 use sw_base::{Name, OutOfMemory};
-use sw_drill::print;
+use sw_record_text::print;
 use sw_settings::SettingsFault;
 use sw_top::Status;
 

@@ -2,16 +2,13 @@
 use Rattle.std.proofs.Common.{◌≡◌, ◌⊎◌, ℕ, ◌+◌, ◌-◌, ◌<◌, ◌==◌, ◌^◌, Bool, true, false, nat_lt, if◌then◌else◌, List, [], ◌∷◌, ◌++◌, length, take, drop, slice_get, Option, Some, None, refl, ap, ◌∙◌, sym, subst, inl, inr, arith}
 use Rattle.std.proofs.lemmas.Bool.Decides.{nat_tests}
 use Rattle.std.specs.Bool.{MatchBool}
-use Rattle.sw_cut.specs.declared.First.{First}
-use Rattle.sw_cut.specs.declared.First.TheVariants as first
 use Rattle.sw_data.specs.declared.ended.Cause.{Cause}
 use Rattle.sw_data.specs.declared.ended.Cause.TheVariants as causes
 use Rattle.sw_data.specs.declared.events.Event.{Event}
 use Rattle.sw_data.specs.declared.events.Event.TheVariants.{Connect, Packet, Closed, Finish, Task}
 use Rattle.sw_frame.specs.Cut.{cut}
-use Rattle.sw_frame.specs.Cutting.{Cutting, next_of, next_by, next_rest, after, IsAnswer}
+use Rattle.sw_frame.specs.Cutting.{Cutting, next_of, after, IsAnswer}
 use Rattle.sw_frame.specs.declared.framing.Framing.{Framing}
-use Rattle.sw_frame.specs.declared.framing.Framing.TheVariants.{Raw}
 use Rattle.sw_frame.specs.declared.next.Next.{Next}
 use Rattle.sw_frame.specs.declared.next.Next.TheVariants as next
 use Rattle.sw_link.specs.declared.link.LinkWrite.{LinkWrite}
@@ -19,17 +16,14 @@ use Rattle.sw_link.specs.declared.link.LinkWrite.TheVariants as writing
 use Rattle.sw_link.specs.Reads.{Read, GotPiece, ReadNotYet, ReadEnd, ReadFailed}
 use Rattle.sw_conn.specs.declared.conn.Conn.{Conn}
 use Rattle.sw_conn.specs.declared.conn.Phase.TheVariants.{Open, Closing}
-use Rattle.sw_conn.specs.declared.conn.Kind.{Kind}
-use Rattle.sw_conn.specs.declared.conn.Kind.TheVariants as kinds
 use Rattle.sw_conn.specs.declared.serve.Step.{Step}
 use Rattle.sw_conn.specs.declared.serve.Step.TheVariants as steps
-use Rattle.sw_conn.specs.declared.terms.Terms.{Terms as Settings}
-use Rattle.sw_conn.specs.Modes.{keeps, bound}
+use Rattle.sw_conn.specs.Modes.{keeps}
 use Rattle.sw_conn.specs.Causes.{is_hard, is_packet_event}
 use Rattle.sw_conn.specs.Conn as conn
 use Rattle.sw_conn.specs.Serve as serving
 use Rattle.sw_record.specs.Terms.{Terms}
-use Rattle.sw_reactor_table.specs.Conn.{Conn as Row, Answers, Served, Pushes, Moves, Stays, Leaves, plain, pushes, starve, read_by, after_read, cut_by, cuts_next, end_by, cause_by, open_by, held_by}
+use Rattle.sw_reactor_table.specs.Conn.{Conn as Row, Answers, Served, Pushes, Moves, Stays, Leaves, plain, pushes, starve, read_by, cut_by, cuts_next, end_by, cause_by, open_by, held_by}
 use Rattle.sw_reactor_table.specs.Conn as table
 use Rattle.sw_conn_fits.specs.Shown.{settings, shown, IsCut, write_of, written_by, pieces_by, some_write, IsStep, IsServed}
 

@@ -8,11 +8,9 @@ use Rattle.std.proofs.lemmas.List.Elements.{All-from_recursion}
 use Rattle.std.proofs.lemmas.Option.{slice_get_read, slice_get-get_or, slice_get_within}
 use Rattle.sw_base.specs.declared.table.Value.{Value}
 use Rattle.sw_base.specs.declared.table.Call.{Call}
-use Rattle.sw_base.specs.declared.table.Call.TheVariants.{Set, Get, Exist, Del, Incr, Decr, Count}
-use Rattle.sw_base.specs.declared.table.CallFault.{CallFault}
+use Rattle.sw_base.specs.declared.table.Call.TheVariants.{Set}
 use Rattle.sw_column.specs.declared.column.Column.{Column}
-use Rattle.sw_column.specs.Fit.{call_fault, pairs_fault, at_column, or_else, is_key}
-use Rattle.sw_column.specs.Columns.{column_of}
+use Rattle.sw_column.specs.Fit.{call_fault, pairs_fault}
 use Rattle.sw_table_laws.specs.Table.{Shape, State, TStep}
 use Rattle.sw_tmodel.specs.Plain.{PlainTable, shape_of}
 use Rattle.sw_dump.specs.Texts.{set_line, set_line_of}

@@ -21,7 +21,7 @@ use Rattle.sw_call.specs.declared.column_texts.Refused.{Refused}
 use Rattle.sw_call.specs.Columns.{kind_of, without_space, column_text as column_read, columns_of, joined, schema_with, schema_of}
 use Rattle.sw_call.specs.Pieces.{pieces_of}
 use Rattle.sw_audit.specs.Grammar.{behind_word, listed, taken, schema_text, table_text}
-use Rattle.sw_dump.specs.Texts.{kind_text, column_text, comma_column, columns_text, head_line}
+use Rattle.sw_dump.specs.Texts.{kind_text, column_text, comma_column, columns_text}
 use Rattle.sw_call_texts.proofs.Peel.{first_of, kept_by}
 use Rattle.sw_call_texts.proofs.Cuts.{Without, part_plain, part_is}
 use Rattle.sw_call_texts.proofs.Items.{Each, IsJoined, each_read, joined as pieces_joined}

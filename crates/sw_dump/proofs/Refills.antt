@@ -4,23 +4,20 @@ use Rattle.std.specs.Prelude.{codes, is_some, IfOk, if◌then◌else◌}
 use Rattle.std.specs.List.{AllByRecursion}
 use Rattle.std.proofs.lemmas.List.Elements.{All-from_recursion}
 use Rattle.sw_text.specs.Then.{◌>>=◌}
-use Rattle.sw_text.specs.Numbers.{signed_of, FitsSigned}
 use Rattle.sw_text.specs.Hex.{bytes_of}
 use Rattle.sw_text.specs.Parts.{cut_at, lines_of}
-use Rattle.sw_text.proofs.AgreeLaw.{signed, bytes}
+use Rattle.sw_text.proofs.AgreeLaw.{bytes}
 use Rattle.sw_text.proofs.LineLaw.{are_lines}
 use Rattle.sw_base.specs.declared.table.Value.{Value}
-use Rattle.sw_base.specs.declared.table.Value.TheVariants.{Int, Text}
 use Rattle.sw_base.specs.declared.out_of_memory.OutOfMemory.{OutOfMemory}
-use Rattle.sw_base.specs.declared.table.Call.{Call}
 use Rattle.sw_column.specs.declared.column.Column.{Column}
-use Rattle.sw_column.specs.Columns.{is_name, place}
+use Rattle.sw_column.specs.Columns.{place}
 use Rattle.sw_column.specs.Fit.{is_key, call_fault}
 use Rattle.sw_column.specs.Values.{holds}
-use Rattle.sw_call.specs.Values.{octets_of, text_value, number_value, value_of}
+use Rattle.sw_call.specs.Values.{value_of}
 use Rattle.sw_audit.specs.declared.trace.Trace.{Trace}
 use Rattle.sw_audit.specs.declared.trace.TraceLine.{TraceLine}
-use Rattle.sw_audit.specs.Grammar.{behind_word, table_text, without_lines, table_of_line, IsTrace}
+use Rattle.sw_audit.specs.Grammar.{behind_word, table_text, without_lines, IsTrace}
 use Rattle.sw_dump.specs.declared.refill.Refill.{Refill}
 use Rattle.sw_dump.specs.Grammar.{fit_value, in_front, values_for, key_of, row_of, is_above, risen, with_row, then_rows, rows_from, kept_first, kept, set_of, with_calls, behind_dump, behind_into, refill_lines, refill_of}
 use Rattle.sw_call_texts.specs.Spelled.{IsValue, IsPair}
@@ -28,7 +25,7 @@ use Rattle.sw_call_texts.proofs.ValueLaw.{value_is}
 use Rattle.sw_dump.specs.Restores.{IsSet, IsRefill}
 use Rattle.sw_call_texts.proofs.Peel.{first_of, kept_by}
 use Rattle.sw_call_texts.proofs.Cuts.{Without}
-use Rattle.sw_dump.proofs.Heads.{AreNamed, IsHead, head_is}
+use Rattle.sw_dump.proofs.Heads.{AreNamed, head_is}
 
 -- ---- values
 

@@ -3,10 +3,9 @@ use Rattle.std.proofs.Common.{◌≡◌, ℕ, zero, suc, ◌+◌, ◌-◌, ◌<�
 use Rattle.std.specs.Prelude.{slice_get, is_some, option_map, option_and_then}
 use Rattle.std.proofs.lemmas.List.{append-nil, at_drop_more, drop_all}
 use Rattle.std.proofs.lemmas.Option.{get_or_from_slice_get, slice_get_within}
-use Rattle.sw_text.specs.Parts.{cut_at, lines_of}
+use Rattle.sw_text.specs.Parts.{cut_at}
 use Rattle.sw_base.specs.declared.table.Value.{Value}
 use Rattle.sw_base.specs.declared.table.Call.{Call}
-use Rattle.sw_base.specs.declared.table.Call.TheVariants as calls
 use Rattle.sw_column.specs.declared.column.Column.{Column}
 use Rattle.sw_column.specs.Columns.{place}
 use Rattle.sw_dump.specs.Grammar.{fit_value, in_front, values_for, row_of, risen, with_row, then_rows, rows_from, kept_first, kept, set_of}

@@ -7,13 +7,12 @@ use Rattle.std.proofs.lemmas.Bool.{eqb-false, ne_eqb, leb-true}
 use Rattle.std.proofs.lemmas.List.{append-nil}
 use Rattle.std.proofs.lemmas.Fmt.{digits_decimal}
 use Rattle.std.proofs.Math.Seq.{get_or-append_seam, take-append_seam}
-use Rattle.sw_text.specs.Numbers.{number_of, signed_of, digits_behind, FitsSigned}
+use Rattle.sw_text.specs.Numbers.{digits_behind}
 use Rattle.sw_text.specs.Hex.{hex, bytes_of}
-use Rattle.sw_text.specs.Parts.{cut_at, part_at}
-use Rattle.sw_text.proofs.NumberLaw.{AreDigits, own, is_number}
-use Rattle.sw_text.proofs.AgreeLaw.{signed, bytes}
+use Rattle.sw_text.specs.Parts.{cut_at}
+use Rattle.sw_text.proofs.NumberLaw.{is_number}
+use Rattle.sw_text.proofs.AgreeLaw.{bytes}
 use Rattle.sw_base.specs.declared.table.Value.{Value}
-use Rattle.sw_base.specs.declared.table.Value.TheVariants.{Int, Text}
 use Rattle.sw_base.specs.declared.table.Call.{Call}
 use Rattle.sw_base.specs.declared.table.Call.TheVariants.{Set, Get, Exist, Del, Incr, Decr, Count}
 use Rattle.sw_base.specs.declared.table.Reply.{Reply}
@@ -24,17 +23,14 @@ use Rattle.sw_column.specs.Fit.{call_fault, is_key}
 use Rattle.sw_table_laws.specs.Rows.{with_pairs}
 use Rattle.sw_table_laws.specs.Table.{Shape, State, TStep, set_step, may_write, row_of}
 use Rattle.sw_call.specs.declared.answer.Replied.{Replied}
-use Rattle.sw_call.specs.declared.verbs.Verb.{Verb}
 use Rattle.sw_call.specs.declared.verbs.Verb.TheVariants as verbs
 use Rattle.sw_call.specs.Pieces.{pieces_of}
-use Rattle.sw_call.specs.Values.{octets_of, text_value, number_value, value_of}
 use Rattle.sw_call.specs.Calls.{pair_of, pairs_of, set_of, verb_of, keyed_of, call_of}
 use Rattle.sw_call.specs.Replies.{only, reply_of}
-use Rattle.sw_audit.specs.declared.trace.TraceLine.{TraceLine}
 use Rattle.sw_audit.specs.Grammar.{before_space, arrow_parts, fit_call, line_of}
 use Rattle.sw_log_text.specs.Values.{value_text}
 use Rattle.sw_dump.specs.Texts.{pair_text, set_text, call_text, reply_text, set_words}
-use Rattle.sw_call_texts.specs.Spelled.{IsValue, IsPair}
+use Rattle.sw_call_texts.specs.Spelled.{IsPair}
 use Rattle.sw_dump.specs.Restores.{IsSet}
 use Rattle.sw_call_texts.proofs.Cuts.{Without, without-append, cut_plain, cut_none, part_plain, without_test}
 use Rattle.sw_call_texts.proofs.Items.{Each, piece_plain, piece_last, each_back}

@@ -8,11 +8,9 @@ use Rattle.sw_base.specs.declared.table.Call.{Call}
 use Rattle.sw_column.specs.declared.column.Column.{Column}
 use Rattle.sw_column.specs.Fit.{call_fault}
 use Rattle.sw_audit.specs.declared.trace.Trace.{Trace}
-use Rattle.sw_audit.specs.declared.verdict.Verdict.{Verdict}
 use Rattle.sw_audit.specs.declared.verdict.Verdict.TheVariants as verdicts
-use Rattle.sw_audit.specs.declared.verdict.AuditFault.{AuditFault}
 use Rattle.sw_audit.specs.Grammar.{head_of, table_text, without_lines, trace_of}
-use Rattle.sw_audit.specs.Verdicts.{IsAudit, IsAuditOf}
+use Rattle.sw_audit.specs.Verdicts.{IsAuditOf}
 use Rattle.sw_dump.specs.declared.refill.Refill.{Refill}
 use Rattle.sw_dump.specs.declared.fault.RestoreFault.{RestoreFault}
 use Rattle.sw_dump.specs.Texts.{columns_text}
@@ -22,7 +20,7 @@ use Rattle.sw_call_texts.proofs.Cuts.{Without, without-append, without_front}
 use Rattle.sw_dump.proofs.Heads.{tail_of, head_is, head_again}
 use Rattle.sw_call_texts.proofs.Cuts.{without_test}
 use Rattle.sw_dump.proofs.Lines.{trace_back}
-use Rattle.sw_dump.proofs.Refills.{IsMade, is_made}
+use Rattle.sw_dump.proofs.Refills.{is_made}
 use Rattle.sw_dump.proofs.Verdicts.{is_verdict}
 
 abbrev first : Trace → List ℕ

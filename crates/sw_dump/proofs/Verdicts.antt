@@ -15,7 +15,6 @@ use Rattle.sw_table_laws.specs.Sizes.{raised}
 use Rattle.sw_table_laws.specs.Table.{Shape, State, TStep, set_step, may_write, row_of}
 use Rattle.sw_tmodel.specs.Plain.{PlainTable, shape_of}
 use Rattle.sw_call.specs.Replies.{only}
-use Rattle.sw_audit.specs.declared.trace.Trace.{Trace}
 use Rattle.sw_audit.specs.declared.trace.TraceLine.{TraceLine}
 use Rattle.sw_audit.specs.declared.verdict.Verdict.TheVariants as verdicts
 use Rattle.sw_audit.specs.Judging.{IsReached, HasPlace}

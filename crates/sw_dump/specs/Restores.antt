@@ -5,7 +5,6 @@ use Rattle.std.specs.FinMap as map
 use Rattle.sw_base.specs.declared.table.Value.{Value}
 use Rattle.sw_base.specs.declared.table.Call.{Call}
 use Rattle.sw_base.specs.declared.table.Call.TheVariants as calls
-use Rattle.sw_base.specs.declared.table.CallFault.{CallFault}
 use Rattle.sw_column.specs.declared.column.Column.{Column}
 use Rattle.sw_column.specs.Columns.{column_of}
 use Rattle.sw_column.specs.Fit.{call_fault, at_column, is_key}

@@ -1,7 +1,6 @@
 -- The calls that a turn has by its table were made, in their order.
 use Rattle.std.proofs.Common.{◌≡◌, ◌⊎◌, ℕ, ◌-◌, ◌%◌, ◌==◌, Bool, true, false, List, [], ◌∷◌, Option, Some, None, Result, Ok, Err, inl, inr, refl, ap, subst, sym}
 use Rattle.sw_base.specs.declared.counter.Counter.{Counter}
-use Rattle.sw_base.specs.declared.table.Value.{Value}
 use Rattle.sw_base.specs.declared.table.Call.{Call}
 use Rattle.sw_base.specs.declared.table.CallFault.{CallFault}
 use Rattle.sw_data.specs.declared.acts.Act.{Act}
@@ -19,17 +18,10 @@ use Rattle.sw_data.specs.declared.messages.Target.{Target}
 use Rattle.sw_data.specs.declared.messages.Ask.{Ask}
 use Rattle.sw_data.specs.declared.messages.Got.{Got}
 use Rattle.sw_data.specs.declared.messages.Got.TheVariants as gots
-use Rattle.sw_port_board.specs.declared.board.BoardStep.{BoardStep}
-use Rattle.sw_port_board.specs.declared.board.BoardStep.TheVariants.{Marked, Stopped, Added}
-use Rattle.sw_port_board.specs.declared.crew.Crew.TheVariants.{Taskers}
-use Rattle.sw_port_board.specs.declared.crew.Sizes.{Sizes}
-use Rattle.sw_port_board.specs.Board.{FindsIdle, SumsUp}
-use Rattle.sw_port_book.specs.Answers.{Looks, Binds}
 use Rattle.sw_port_book.specs.declared.answers.Look.{Look}
 use Rattle.sw_port_book.specs.declared.answers.Look.TheVariants.{Live, Other}
-use Rattle.sw_port_book.specs.declared.answers.BindFault.{BindFault}
 use Rattle.sw_port_shelf.specs.declared.shelf.Placed.{Placed}
-use Rattle.sw_hand.specs.Ports.{Acting, Going, Looking, Binding, Calling}
+use Rattle.sw_hand.specs.Ports.{Acting}
 use Rattle.sw_hand.specs.House.{fd_of, enders}
 use Rattle.sw_hand.specs.Stage.{current_of, is_for, answer_of, counter_of}
 use Rattle.sw_hand.specs.Hand.{is_own, own_with, unstaged}
@@ -42,13 +34,12 @@ use Rattle.sw_hand.specs.Leaving.{EndsAs, Leaves, StopsAs, Stops, GoesAs, GoesOn
 use Rattle.sw_hand.specs.Taking.{Settles, Returns, Sends, Gives, TakesEvent, Takes, Idles, noted, ended_more}
 use Rattle.sw_hand.specs.Turn.{Makes, TurnsAs, Turns}
 use Rattle.sw_hand.specs.declared.hand.Hand.{Hand}
-use Rattle.sw_hand.specs.declared.house.House.{House}
 use Rattle.sw_hand.specs.declared.stage.Current.{Current}
 use Rattle.sw_hand.specs.declared.stage.Errand.{Errand}
 use Rattle.sw_hand.specs.declared.stage.Errand.TheVariants as errands
 use Rattle.sw_hand.specs.declared.stage.Stage.{Stage}
 use Rattle.sw_hand.specs.declared.stage.Stage.TheVariants as stages
-use Rattle.sw_hand_calls.specs.Calls.{PortCall, Gave, Starved, Looked, Bound, Called, Idled, Summed, Stepped, Rules, Around, moment, around, IsMade, AreMade, TurnsBy, turn_calls_of, hears_calls, once_calls, answers_calls, counts_calls, reach_seen_calls, reaches_calls, tells_calls, binds_calls, posts_calls, finishes_calls, refused_calls, placed_calls, seen_calls, table_calls, sums_calls, shuts_calls, settles_calls, returns_calls, sends_calls, gives_calls, takes_event_calls, takes_calls, idles_calls, makes_calls, turn_calls}
+use Rattle.sw_hand_calls.specs.Calls.{PortCall, Rules, Around, moment, around, AreMade, TurnsBy, hears_calls, once_calls, answers_calls, counts_calls, reach_seen_calls, reaches_calls, tells_calls, binds_calls, posts_calls, finishes_calls, refused_calls, placed_calls, seen_calls, table_calls, sums_calls, shuts_calls, settles_calls, returns_calls, sends_calls, gives_calls, takes_event_calls, takes_calls, idles_calls, makes_calls, turn_calls}
 
 around_is : {H B S C : Type 0} {x y : H} {b b2 : B} {s s2 : S} {d d2 : C} → y ≡ x → b2 ≡ b → s2 ≡ s → d2 ≡ d → moment y b2 s2 d2 ≡ moment x b s d
 around_is e1 e2 e3 e4 = cc

@@ -31,7 +31,7 @@ use Rattle.sw_port_book.specs.declared.answers.Look.TheVariants.{Live, Other}
 use Rattle.sw_port_book.specs.declared.answers.BindFault.{BindFault}
 use Rattle.sw_port_shelf.specs.declared.shelf.Placed.{Placed}
 use Rattle.sw_hand.specs.Ports.{Acting, Going, Looking, Binding, Calling}
-use Rattle.sw_hand.specs.House.{fd_of, enders}
+use Rattle.sw_hand.specs.House.{fd_of}
 use Rattle.sw_hand.specs.Stage.{current_of, is_for, answer_of, counter_of}
 use Rattle.sw_hand.specs.Hand.{is_own, own_with, unstaged}
 use Rattle.sw_hand.specs.Hearing.{HearsAs, AtOnce, Counts}
@@ -39,11 +39,9 @@ use Rattle.sw_hand.specs.Asking.{Answers}
 use Rattle.sw_hand.specs.Reaching.{ReachSeen, ReachesAs, TellsAs, BindsAs, told_by, bound_by, info_known}
 use Rattle.sw_hand.specs.Posting.{PostsAs, FinishesAs, post_refusal, poster_of}
 use Rattle.sw_hand.specs.Calling.{CallsRefused, CallsPlaced, CallsSeen, CallsAs, Sums, Shuts, is_busy, cells_of}
-use Rattle.sw_hand.specs.Leaving.{EndsAs, Leaves, StopsAs, Stops, GoesAs, GoesOn, may_stop, last_words}
-use Rattle.sw_hand.specs.Taking.{Settles, Returns, Sends, Gives, TakesEvent, Takes, Idles, noted, ended_more}
+use Rattle.sw_hand.specs.Taking.{Settles, Returns, Sends, Gives, TakesEvent, Takes, Idles, noted}
 use Rattle.sw_hand.specs.Turn.{Makes, TurnsAs, Turns}
 use Rattle.sw_hand.specs.declared.hand.Hand.{Hand}
-use Rattle.sw_hand.specs.declared.house.House.{House}
 use Rattle.sw_hand.specs.declared.stage.Current.{Current}
 use Rattle.sw_hand.specs.declared.stage.Errand.{Errand}
 use Rattle.sw_hand.specs.declared.stage.Errand.TheVariants as errands

@@ -1,3 +1,3 @@
-pub mod PlayedLaw
-pub mod Settled
-pub mod RightTexts
+pub mod Runs
+pub mod Counts
+pub mod Texts

@@ -1,3 +1,5 @@
-pub mod Faults
-pub mod Run
+pub mod Steps
+pub mod Played
+pub mod Drilled
+pub mod Answers
 pub mod Rightly

@@ -2,6 +2,8 @@
 #![tactic(auto)]
 
 mod drilling;
+mod handling;
 mod playing;
+mod running;
 
 pub use drilling::drilled;

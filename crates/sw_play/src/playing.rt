@@ -1,91 +1,132 @@
-//! A schedule is played: each line's steps are taken by the core, and the record of what happened is printed.
+//! The lines of a schedule are played: each one's steps are taken by the core, one after the other, and none is kept.
 
-ghost use Rattle.std.specs.Prelude.{◌≡◌, ℕ, ◌<◌, ◌≤◌, length, replicate, OnOk, IfOk, string_bytes};
-ghost use Rattle.sw_thin_record.specs.declared.step.Step.TheVariants.{Turn};
-ghost use Rattle.sw_drill.specs.Steps.{round, rounds, steps_of_line, steps_of};
-ghost use Rattle.sw_play.specs.Run.{stepped, played, fresh, account_text, drill_text};
+ghost use Rattle.std.specs.Prelude.{◌≡◌, ◌∷◌, [], replicate, OnOk};
+ghost use Rattle.sw_step.specs.declared.actor.ActorId.TheVariants as actors;
+ghost use Rattle.sw_step.specs.declared.step.Step.TheVariants.{Turn};
+ghost use Rattle.sw_world_crew.specs.Recorded.{recorded_acts};
+ghost use Rattle.sw_world.specs.Run.{Ran};
+ghost use Rattle.sw_play.specs.Steps.{each, round, rounds, steps_of_line, steps_of};
 
-use std::alloc::Global;
 use sw_base::OutOfMemory;
-use sw_drill::{Line, Lines, print};
+use sw_handler::Handler;
+use sw_schedule::{Line, Lines};
 use sw_settings::Settings;
-use sw_thin_record::{ActorId, Step};
-use sw_thin_world::World;
+use sw_step::{ActorId, Step};
+use sw_world::World;
 
-#[tactic(auto, unfolding(crate::specs::Run::fresh))]
-fn make(alloc: Global, settings: &Settings) -> Result<World, OutOfMemory>
-    ensures { IfOk result (λ w. w.state ≡ fresh settings.now) }
-{
-    World::make(alloc, settings)
-}
-
-#[tactic(auto, unfolding(crate::specs::Run::stepped))]
-fn step(world: &mut World, step: Step) -> Result<(), OutOfMemory>
-    ensures { OnOk result (world.new.state ≡ stepped step world.old.state) }
+fn step<H: Handler + Drop, T: Handler + Drop>(
+    world: &mut World<H, T>,
+    step: Step,
+) -> Result<(), OutOfMemory>
+    ensures { OnOk result (Ran (recorded_acts H.acts) (recorded_acts T.acts) world.old.state (step ∷ []) world.new.state) }
 {
     world.step(step)
 }
 
-fn turns(world: &mut World, actor: ActorId, n: u64) -> Result<(), OutOfMemory>
-    ensures { OnOk result (world.new.state ≡ played (replicate n (Turn actor)) world.old.state) }
+/// So many steps of an actor.
+fn turns<H: Handler + Drop, T: Handler + Drop>(
+    world: &mut World<H, T>,
+    actor: ActorId,
+    count: u64,
+) -> Result<(), OutOfMemory>
+    ensures { OnOk result (Ran (recorded_acts H.acts) (recorded_acts T.acts) world.old.state (replicate count (Turn actor)) world.new.state) }
 {
-    for _ in 0..n {
+    for _ in 0..count {
         step(world, Step::Turn(actor))?;
     }
     Ok(())
 }
 
-#[tactic(auto, unfolding(crate::specs::Run::played))]
-fn round(world: &mut World) -> Result<(), OutOfMemory>
-    ensures { OnOk result (world.new.state ≡ played round world.old.state) }
+/// One step of each reactor.
+fn reactors<H: Handler + Drop, T: Handler + Drop>(
+    world: &mut World<H, T>,
+    count: u32,
+) -> Result<(), OutOfMemory>
+    ensures { OnOk result (Ran (recorded_acts H.acts) (recorded_acts T.acts) world.old.state (each actors.Reactor count) world.new.state) }
 {
-    step(world, Step::Turn(ActorId::Door))?;
-    step(world, Step::Turn(ActorId::Reactor(0)))?;
-    step(world, Step::Turn(ActorId::Worker(0)))
-}
-
-fn rounds(world: &mut World, n: u64) -> Result<(), OutOfMemory>
-    ensures { OnOk result (world.new.state ≡ played (rounds n) world.old.state) }
-{
-    for _ in 0..n {
-        round(world)?;
+    for number in 0..count {
+        step(world, Step::Turn(ActorId::Reactor(number)))?;
     }
     Ok(())
 }
 
-#[tactic(auto, unfolding(crate::specs::Run::played))]
-fn play_line(world: &mut World, line: Line) -> Result<(), OutOfMemory>
-    ensures { OnOk result (world.new.state ≡ played (steps_of_line line) world.old.state) }
+/// One step of each worker.
+fn workers<H: Handler + Drop, T: Handler + Drop>(
+    world: &mut World<H, T>,
+    count: u32,
+) -> Result<(), OutOfMemory>
+    ensures { OnOk result (Ran (recorded_acts H.acts) (recorded_acts T.acts) world.old.state (each actors.Worker count) world.new.state) }
+{
+    for number in 0..count {
+        step(world, Step::Turn(ActorId::Worker(number)))?;
+    }
+    Ok(())
+}
+
+/// One step of each task worker.
+fn taskers<H: Handler + Drop, T: Handler + Drop>(
+    world: &mut World<H, T>,
+    count: u32,
+) -> Result<(), OutOfMemory>
+    ensures { OnOk result (Ran (recorded_acts H.acts) (recorded_acts T.acts) world.old.state (each actors.Tasker count) world.new.state) }
+{
+    for number in 0..count {
+        step(world, Step::Turn(ActorId::Tasker(number)))?;
+    }
+    Ok(())
+}
+
+/// One step of each actor.
+fn round<H: Handler + Drop, T: Handler + Drop>(
+    world: &mut World<H, T>,
+    settings: &Settings,
+) -> Result<(), OutOfMemory>
+    ensures { OnOk result (Ran (recorded_acts H.acts) (recorded_acts T.acts) world.old.state (round settings.now) world.new.state) }
+{
+    step(world, Step::Turn(ActorId::Door))?;
+    reactors(world, settings.reactor_num())?;
+    workers(world, settings.worker_num())?;
+    taskers(world, settings.task_worker_num())
+}
+
+/// So many rounds.
+fn rounds<H: Handler + Drop, T: Handler + Drop>(
+    world: &mut World<H, T>,
+    settings: &Settings,
+    count: u64,
+) -> Result<(), OutOfMemory>
+    ensures { OnOk result (Ran (recorded_acts H.acts) (recorded_acts T.acts) world.old.state (rounds settings.now count) world.new.state) }
+{
+    for _ in 0..count {
+        round(world, settings)?;
+    }
+    Ok(())
+}
+
+fn play_line<H: Handler + Drop, T: Handler + Drop>(
+    world: &mut World<H, T>,
+    settings: &Settings,
+    line: Line,
+) -> Result<(), OutOfMemory>
+    ensures { OnOk result (Ran (recorded_acts H.acts) (recorded_acts T.acts) world.old.state (steps_of_line settings.now line) world.new.state) }
 {
     match line {
         Line::Step(one) => step(world, one),
-        Line::Turns(actor, n) => turns(world, actor, n),
-        Line::Rounds(n) => rounds(world, n),
+        Line::Turns(actor, count) => turns(world, actor, count),
+        Line::Rounds(count) => rounds(world, settings, count),
     }
 }
 
-fn play(world: &mut World, lines: Lines) -> Result<(), OutOfMemory>
-    ensures { OnOk result (world.new.state ≡ played (steps_of lines) world.old.state) }
+/// All lines, one after the other.
+pub fn play<H: Handler + Drop, T: Handler + Drop>(
+    world: &mut World<H, T>,
+    settings: &Settings,
+    lines: Lines,
+) -> Result<(), OutOfMemory>
+    ensures { OnOk result (Ran (recorded_acts H.acts) (recorded_acts T.acts) world.old.state (steps_of settings.now lines) world.new.state) }
 {
     for line in lines.into_vec() {
-        play_line(world, line)?;
+        play_line(world, settings, line)?;
     }
     Ok(())
-}
-
-#[tactic(auto, unfolding(crate::specs::Run::account_text))]
-fn account(alloc: Global, world: &World) -> Result<String, OutOfMemory>
-    ensures { IfOk result (λ text. string_bytes text ≡ account_text world.now.state) }
-{
-    let so_far = world.account()?;
-    print(alloc, &so_far)
-}
-
-/// The text of the record that these lines lead to. Only want of memory makes it answer an error.
-pub fn played(alloc: Global, settings: &Settings, lines: Lines) -> Result<String, OutOfMemory>
-    ensures { IfOk result (λ text. string_bytes text ≡ drill_text settings.now lines) }
-{
-    let mut world = make(alloc, settings)?;
-    play(&mut world, lines)?;
-    account(alloc, &world)
 }

@@ -8,7 +8,6 @@ use Rattle.sw_data.specs.declared.messages.Got.TheVariants as gots
 use Rattle.sw_link.specs.declared.net.Accept.{Accept}
 use Rattle.sw_link.specs.declared.net.Accept.TheVariants as accepts
 use Rattle.sw_port_book.specs.declared.answers.ClaimFault.{ClaimFault}
-use Rattle.sw_port_book.specs.declared.answers.ClaimFault.TheVariants as claims
 use Rattle.sw_door.specs.declared.door.Door.{Door}
 use Rattle.sw_door.specs.Door.{Going, Claimed, AcceptsAs, Ends, GoesOn, Turns}
 use Rattle.sw_players.specs.Hears.{Heard, ListensAs}

@@ -1,6 +1,5 @@
 -- A hand's turn leaves what it goes by.
 use Rattle.std.proofs.Common.{◌≡◌, List, sym, subst}
-use Rattle.sw_base.specs.declared.table.Value.{Value}
 use Rattle.sw_column.specs.declared.column.Column.{Column}
 use Rattle.sw_port_board.specs.declared.crew.Sizes.{Sizes}
 use Rattle.sw_hand.specs.Hand.{IsCrew, HasRow, Lasts}

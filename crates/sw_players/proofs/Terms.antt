@@ -1,6 +1,5 @@
 -- A reactor's turn leaves its settings.
 use Rattle.std.proofs.Common.{◌≡◌, ℕ, ◌==◌, Bool, true, false, nat_lt, List, length, slice_get, Option, Some, refl, sym, ap, ◌∙◌}
-use Rattle.sw_data.specs.declared.ended.Cause.{Cause}
 use Rattle.sw_data.specs.declared.events.Event.{Event}
 use Rattle.sw_data.specs.declared.messages.Msg.{Msg}
 use Rattle.sw_data.specs.declared.messages.Msg.TheVariants as msgs
@@ -17,18 +16,15 @@ use Rattle.sw_conn.specs.declared.conn.Kind.{Kind}
 use Rattle.sw_conn.specs.declared.conn.Kind.TheVariants as kinds
 use Rattle.sw_conn.specs.declared.serve.Step.{Step}
 use Rattle.sw_conn.specs.declared.serve.Step.TheVariants as chosen
-use Rattle.sw_conn.specs.declared.terms.Terms.{Terms}
 use Rattle.sw_conn.specs.Modes.{keeps}
 use Rattle.sw_conn.specs.Conn.{kind_of}
 use Rattle.sw_reactor.specs.declared.reactor.Asked.{Asked}
 use Rattle.sw_reactor.specs.declared.reactor.Asked.TheVariants as asks
 use Rattle.sw_reactor.specs.declared.reactor.Reactor.{Reactor}
-use Rattle.sw_reactor.specs.Line.{Lined}
-use Rattle.sw_reactor.specs.Reactor.{OnLine, SettlesMsg, SettlesPush, SettlesEvent, SettlesFull, Settles}
-use Rattle.sw_reactor.specs.Turn.{Asks, Takes, moved, wrote_some, Stays, Pushes}
-use Rattle.sw_reactor.specs.Aims.{AimsSide, AfterRead, ReadsMore}
-use Rattle.sw_reactor.specs.Leave.{Leaves}
-use Rattle.sw_reactor.specs.Serving.{Ports, Aims, counted, Tells, Steps, ServesNext, Serves, Chooses_by, Turns}
+use Rattle.sw_reactor.specs.Reactor.{SettlesMsg, SettlesPush, SettlesEvent, SettlesFull, Settles}
+use Rattle.sw_reactor.specs.Turn.{Asks, wrote_some, Stays}
+use Rattle.sw_reactor.specs.Aims.{AfterRead}
+use Rattle.sw_reactor.specs.Serving.{Ports, Aims, counted, Steps, Serves, Chooses_by, Turns}
 use Rattle.sw_reactor.proofs.Keeping.{by_bool}
 
 module _ {L K : Type 0} where

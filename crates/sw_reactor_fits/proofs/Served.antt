@@ -34,14 +34,14 @@ use Rattle.sw_past.specs.Messages.{EventMsg}
 use Rattle.sw_reactor_table.specs.Conn.{Conn as Row, Answers, Served, Pushes, Moves, Stays, Leaves, serve, pushes, plain, read_by, over_link}
 use Rattle.sw_reactor_table.specs.Conn as table
 use Rattle.sw_reactor_table.specs.Reactor as tables
-use Rattle.sw_reactor_table.specs.Reactor.{Reactor as Table, Ask, Take, Push, Nothing, all, turned, served_by, serves, counted}
+use Rattle.sw_reactor_table.specs.Reactor.{Reactor as Table, Push, Nothing, turned, served_by, serves, counted}
 use Rattle.sw_reactor_table.specs.Quiet.{IsOf, IsIdle}
 use Rattle.sw_conn_fits.specs.Shown.{settings, shown, IsCut, write_of, written_by, pieces_by, some_write, IsStep, IsServed}
 use Rattle.sw_conn_fits.proofs.Conn.{served_is, shown_moved, shown_sees, shown_read, cut_read, shown_home, shown_side}
 use Rattle.sw_reactor.specs.declared.reactor.Reactor.{Reactor}
 use Rattle.sw_reactor.specs.Line.{Lined, At, AtLine}
 use Rattle.sw_reactor.specs.Turn as code
-use Rattle.sw_reactor.specs.Aims.{uid_of, AimsSide, AimsIdle, next_turn, AfterRead, ReadsNext, ReadsMore}
+use Rattle.sw_reactor.specs.Aims.{uid_of, AimsSide, AimsIdle, AfterRead, ReadsMore}
 use Rattle.sw_reactor.specs.Aims as aims
 use Rattle.sw_reactor.specs.Leave as leave
 use Rattle.sw_reactor.specs.Serving.{Ports, Aims, Tells, Steps, ServesNext}

@@ -12,7 +12,7 @@ use Rattle.sw_record.specs.Terms.{Terms}
 use Rattle.sw_record.specs.declared.record.LinkRecord.{LinkRecord}
 use Rattle.sw_past.specs.Messages.{EventMsg}
 use Rattle.sw_reactor_table.specs.Conn.{Conn as Row}
-use Rattle.sw_reactor_table.specs.Reactor.{Reactor as Table, Ask, Take, Push, Nothing, Rest, Finished, all, turned}
+use Rattle.sw_reactor_table.specs.Reactor.{Reactor as Table, Push, Nothing, turned}
 use Rattle.sw_reactor_table.specs.Reactor as tables
 use Rattle.sw_reactor_table.specs.Quiet.{IsOf}
 use Rattle.sw_conn_fits.specs.Shown.{settings, some_write}

@@ -2,7 +2,6 @@
 use Rattle.std.proofs.Common.{◌≡◌, ◌⊎◌, ℕ, ◌+◌, ◌-◌, ◌<◌, ◌≤◌, ◌^◌, ◌==◌, Bool, true, false, nat_lt, if◌then◌else◌, List, [], ◌∷◌, ◌++◌, length, map, refl, ap, ◌∙◌, sym, subst, append-nil, append_assoc, arith, Option, Some, None, inl, inr}
 use Rattle.std.proofs.lemmas.Bool.Decides.{nat_tests}
 use Rattle.sw_data.specs.declared.messages.Got.{Got}
-use Rattle.sw_data.specs.declared.messages.Got.TheVariants.{Start}
 use Rattle.sw_frame.specs.Cutting.{next_of}
 use Rattle.sw_frame.specs.declared.next.Next.{Next}
 use Rattle.sw_frame.specs.declared.next.Next.TheVariants as next
@@ -11,21 +10,20 @@ use Rattle.sw_link.specs.declared.link.LinkWrite.TheVariants as writing
 use Rattle.sw_link.specs.Reads.{Read, GotPiece, ReadNotYet, ReadEnd, ReadFailed}
 use Rattle.sw_conn.specs.declared.conn.Phase.{Phase}
 use Rattle.sw_conn.specs.declared.conn.Phase.TheVariants.{Coming, Open, Closing}
-use Rattle.sw_conn.specs.Causes.{is_hard, drops, is_packet_event}
+use Rattle.sw_conn.specs.Causes.{is_hard, drops}
 use Rattle.sw_conn.specs.Conn.{set_soft, set_hard, drop_packet}
 use Rattle.sw_lists.specs.Lists.{collect, Each}
 use Rattle.sw_lists.specs.Numbers.{Distinct}
-use Rattle.sw_lists.proofs.Lists.{each_append, each_left, each_right, each_more, eq_is}
-use Rattle.sw_step.specs.declared.actor.ActorId.{ActorId}
+use Rattle.sw_lists.proofs.Lists.{each_append, each_left, each_right, each_more}
 use Rattle.sw_record.specs.Words.{Event, Connect, Packet, Closed, Finish, Task, Cause, ServerClose, ResetCause, Overflow, NoMemory}
 use Rattle.sw_record.specs.Terms.{Terms, keeps}
 use Rattle.sw_past.specs.Messages.{Message, FreshMsg, SendMsg, CloseMsg, ResetMsg, Bye, EventMsg, OverMsg, NoMore}
 use Rattle.sw_past.specs.Past.{Mail}
 use Rattle.sw_past.specs.Routes.{IsFair}
 use Rattle.sw_join.specs.Laws.{Aim, Ending}
-use Rattle.sw_reactor_table.specs.Conn.{Conn, Answers, Does, Pushes, Moves, Stays, Leaves, Served, fresh, sent, takes, stops, noted, holds, at_event, wrote, flushed_some, flushed, cleared, tidied, looked, pushes, plain, starve, cutter, read_by, cut_by, cuts_next, closes, can_leave, end_by, cause_by, connects, open_by, held_by, serve, writes, over_link}
+use Rattle.sw_reactor_table.specs.Conn.{Conn, Answers, Does, Pushes, Moves, Stays, Leaves, Served, fresh, sent, takes, stops, noted, holds, at_event, wrote, flushed_some, flushed, cleared, tidied, pushes, plain, starve, cutter, read_by, cut_by, cuts_next, closes, can_leave, end_by, cause_by, connects, held_by, serve, writes}
 use Rattle.sw_reactor_table.specs.Reactor.{Reactor, Ask, Take, Push, Nothing, Rest, Finished, all, each_conn, settled, settled_msg, settled_push, settled_full, pushed_by, full_by, turned, rest_by, stayed, served_by, counted, ends_by, serves, chosen, started}
-use Rattle.sw_reactor_table.specs.Quiet.{QuietLists, Quiet, QuietAfter, ServedBy, ServedRight, IsOf, Grows, session_in, session_over}
+use Rattle.sw_reactor_table.specs.Quiet.{QuietLists, Quiet, ServedBy, ServedRight, IsOf, Grows, session_in, session_over}
 use Rattle.sw_reactor_table.specs.Modes.{ModeLaws}
 use Rattle.sw_reactor_table.specs.Runs.{Called, TookOne, FoundNone, PushedOne, CameBack, NoCall, Runs, First, Then}
 use Rattle.sw_reactor_table.proofs.Lift.{perm_front, lists_perm, others_not, map_append, map_at}
@@ -33,8 +31,8 @@ use Rattle.sw_reactor_table.proofs.Serve.{serve_right}
 use Rattle.sw_reactor_table.proofs.Turn.{started_quiet}
 use Rattle.sw_reactor_table.proofs.Law.{call_quiet, call_fair, runs_quiet}
 use Rattle.sw_reactor_laws.specs.Bounds.{MayNote, HeldMay, opened, IsSmall, CanNoteMsg, CanNote, InBounds}
-use Rattle.sw_reactor_table.proofs.Everywhere.{Settled, if_each, each_all_conn, settled_each, around}
-use Rattle.sw_reactor_laws.proofs.Histories.{Listed, runs_listed}
+use Rattle.sw_reactor_table.proofs.Everywhere.{if_each, each_all_conn, around}
+use Rattle.sw_reactor_laws.proofs.Histories.{runs_listed}
 
 -- what settles a message keeps it
 small_takes : (t : Terms) (starved : Bool) (m : Message) (c : Conn) → IsSmall c → IsSmall (takes t starved m c)

@@ -1,14 +1,14 @@
 -- What a run counted and released: the packets that it pushed, and the sessions of the links that it ended.
 use Rattle.std.proofs.Common.{◌≡◌, ◌⊎◌, ℕ, ◌+◌, ◌<◌, ◌≤◌, ◌==◌, Bool, true, false, nat_lt, if◌then◌else◌, List, [], ◌∷◌, ◌++◌, length, map, refl, ap, ◌∙◌, sym, subst, append-nil, append_assoc, arith, Option, Some, None, inl, inr, zero, suc}
 use Rattle.sw_data.specs.declared.messages.Got.{Got}
-use Rattle.sw_data.specs.declared.messages.Got.TheVariants.{Start, Full}
+use Rattle.sw_data.specs.declared.messages.Got.TheVariants.{Full}
 use Rattle.sw_lists.specs.Lists.{collect, Each, Has}
 use Rattle.sw_lists.specs.Numbers.{Distinct}
 use Rattle.sw_lists.specs.Perm.{Perm}
-use Rattle.sw_lists.proofs.Lists.{collect-append, each_left, each_right, each_more, length_append, perm_length, perm_has}
+use Rattle.sw_lists.proofs.Lists.{collect-append, each_more}
 use Rattle.sw_step.specs.declared.actor.ActorId.TheVariants.{Worker}
-use Rattle.sw_record.specs.Counts.{total, dispatched_of}
-use Rattle.sw_record.specs.Words.{Event, Connect, Packet, Closed, Finish, Task, Cause, Ended}
+use Rattle.sw_record.specs.Counts.{total}
+use Rattle.sw_record.specs.Words.{Event, Connect, Packet, Closed, Finish, Task, Ended}
 use Rattle.sw_record.specs.declared.record.LinkRecord.{LinkRecord}
 use Rattle.sw_record.specs.declared.record.LinkState.{LinkState}
 use Rattle.sw_record.specs.declared.record.LinkState.TheVariants.{Waiting, Live, Over}
@@ -19,8 +19,8 @@ use Rattle.sw_past.specs.Views.{fresh_in, packet_msg}
 use Rattle.sw_past.specs.Routes.{IsFair}
 use Rattle.sw_join.specs.Laws.{Aim, Ending}
 use Rattle.sw_reactor_table.specs.Conn.{Conn, Answers, Does, Pushes, Moves, Stays, Leaves, Served, holds, stops, at_event, writes, serve, live_link, over_link}
-use Rattle.sw_reactor_table.specs.Reactor.{Reactor, Ask, Take, Push, Nothing, Rest, Finished, all, each_conn, settled, settled_full, full_by, turned, rest_by, stayed, served_by, counted, ends_by, serves, chosen, turn, started, live_links, kept}
-use Rattle.sw_reactor_table.specs.Quiet.{QuietOver, QuietLists, Quiet, QuietBy, QuietAfter, Grows, IsCaused, session_in, some_list, session_over, sessions}
+use Rattle.sw_reactor_table.specs.Reactor.{Reactor, Ask, Take, Push, Nothing, Rest, Finished, all, each_conn, settled, settled_full, full_by, turned, stayed, served_by, counted, ends_by, serves, chosen, started, live_links, kept}
+use Rattle.sw_reactor_table.specs.Quiet.{QuietOver, QuietLists, Quiet, QuietBy, Grows, IsCaused, session_in, some_list, session_over, sessions}
 use Rattle.sw_reactor_table.specs.Modes.{ModeLaws}
 use Rattle.sw_reactor_laws.specs.Shows.{WasAsked}
 use Rattle.sw_reactor_table.specs.Runs.{Called, TookOne, FoundNone, PushedOne, CameBack, NoCall, Runs, First, Then}

@@ -1,25 +1,23 @@
 -- The last that a finished reactor pushed to a worker is NoMore: once one was given there is no connection any more.
 use Rattle.std.proofs.Common.{◌≡◌, ◌⊎◌, ℕ, ◌+◌, ◌<◌, ◌≤◌, ◌==◌, Bool, true, false, nat_lt, if◌then◌else◌, List, [], ◌∷◌, ◌++◌, length, map, refl, ap, ◌∙◌, sym, subst, append-nil, arith, inl, inr, zero, suc}
 use Rattle.sw_data.specs.declared.messages.Got.{Got}
-use Rattle.sw_data.specs.declared.messages.Got.TheVariants.{Start}
 use Rattle.sw_lists.specs.Lists.{collect, Each, when}
 use Rattle.sw_lists.proofs.Lists.{collect-append, append_none, eq_same, eq_other}
 use Rattle.std.proofs.lemmas.Bool.{cases_lt}
 use Rattle.sw_step.specs.declared.actor.ActorId.{ActorId}
 use Rattle.sw_step.specs.declared.actor.ActorId.TheVariants.{Worker}
 use Rattle.sw_record.specs.Terms.{Terms}
-use Rattle.sw_record.specs.Words.{Event}
 use Rattle.sw_past.specs.Messages.{Message, FreshMsg, SendMsg, CloseMsg, ResetMsg, Bye, EventMsg, OverMsg, NoMore}
 use Rattle.sw_past.specs.Past.{Mail, bare, with, of}
 use Rattle.sw_past.specs.Views.{no_more, fresh_in}
 use Rattle.sw_past.specs.Routes.{ToWorker}
 use Rattle.sw_join.specs.Drained.{LastMarked}
-use Rattle.sw_reactor_table.specs.Conn.{Conn, Answers, Does, Pushes, Moves, Stays, Leaves, fresh, takes, stops, noted, holds, at_event, writes, serve}
-use Rattle.sw_reactor_table.specs.Reactor.{Reactor, Ask, Take, Push, Nothing, Rest, Finished, all, each_conn, settled, settled_msg, settled_push, settled_full, pushed_by, full_by, turned, rest_by, stayed, served_by, counted, ends_by, serves, chosen, turn, started}
+use Rattle.sw_reactor_table.specs.Conn.{Conn, Answers, Does, Pushes, Moves, Stays, Leaves, takes, stops, noted, holds, at_event, writes, serve}
+use Rattle.sw_reactor_table.specs.Reactor.{Reactor, Ask, Take, Push, Nothing, Rest, Finished, all, each_conn, settled, settled_msg, settled_push, settled_full, pushed_by, full_by, turned, rest_by, served_by, counted, ends_by, serves, chosen, started}
 use Rattle.sw_reactor_table.specs.Runs.{Called, TookOne, FoundNone, PushedOne, CameBack, NoCall, Runs, First, Then}
-use Rattle.sw_reactor_laws.specs.Ending.{Counts, Chose, LinksFirst}
+use Rattle.sw_reactor_laws.specs.Ending.{LinksFirst}
 use Rattle.sw_reactor_table.proofs.Flow.{more_of}
-use Rattle.sw_reactor_table.proofs.Settle.{lt_is, lt_not}
+use Rattle.sw_reactor_table.proofs.Settle.{lt_is}
 use Rattle.sw_reactor_laws.proofs.Ending.{chosen_chose, call_counts, runs_counts}
 use Rattle.sw_reactor_table.proofs.Law.{runs_straight}
 

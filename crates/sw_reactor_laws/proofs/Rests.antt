@@ -1,27 +1,24 @@
 -- Each cause rests on what it says: an end or a fault of a read, a fault of a write, or a fault behind the packets.
 use Rattle.std.proofs.Common.{◌≡◌, ℕ, ◌+◌, ◌-◌, ◌%◌, ◌==◌, ◌^◌, Bool, true, false, nat_lt, if◌then◌else◌, List, [], ◌∷◌, ◌++◌, length, slice_get, refl, ap, ◌∙◌, sym, subst, append-nil, Option, Some, None}
-use Rattle.sw_data.specs.declared.messages.Got.{Got}
-use Rattle.sw_data.specs.declared.messages.Got.TheVariants.{Start}
 use Rattle.sw_cut.specs.declared.First.{First as FirstOf}
 use Rattle.sw_cut.specs.declared.First.TheVariants as first
 use Rattle.sw_frame.specs.Cut.{cut}
 use Rattle.sw_frame.specs.Cutting.{next_by, next_rest}
-use Rattle.sw_frame.specs.declared.next.Next.{Next}
 use Rattle.sw_frame.specs.declared.next.Next.TheVariants as next
 use Rattle.sw_link.specs.declared.link.LinkWrite.{LinkWrite}
 use Rattle.sw_link.specs.declared.link.LinkWrite.TheVariants as writing
 use Rattle.sw_link.specs.Reads.{Read, GotPiece, ReadNotYet, ReadEnd, ReadFailed}
 use Rattle.sw_conn.specs.Causes.{hard, is_hard}
 use Rattle.sw_conn.specs.Conn.{set_soft, set_hard, has_unsent}
-use Rattle.sw_lists.specs.Lists.{Each, Has, when}
+use Rattle.sw_lists.specs.Lists.{Each, when}
 use Rattle.sw_record.specs.Words.{Event, Connect, Packet, Closed, Finish, Task, Cause, PeerEnd, ServerClose, ResetCause, ReadFault, WriteFault, TooLong, BadLength, Overflow, Stop, NoSlot, NumbersSpent, NoMemory, Ended}
 use Rattle.sw_record.specs.declared.record.LinkRecord.{LinkRecord}
 use Rattle.sw_record.specs.declared.record.LinkState.TheVariants.{Over}
-use Rattle.sw_record.specs.Terms.{Terms, session_of, packets_cut}
+use Rattle.sw_record.specs.Terms.{Terms, packets_cut}
 use Rattle.sw_past.specs.Messages.{Message, FreshMsg, SendMsg, CloseMsg, ResetMsg, Bye, EventMsg, OverMsg, NoMore}
 use Rattle.sw_past.specs.Past.{Mail}
-use Rattle.sw_reactor_table.specs.Conn.{Conn, Answers, Does, Pushes, Moves, Stays, Leaves, Served, fresh, sent, takes, stops, noted, holds, wrote, flushed_some, flushed, tidied, looked, place, pushes, plain, starve, read_by, cut_by, cuts_next, closes, can_leave, end_by, cause_by, connects, open_by, held_by, serve, account, over_link, writes}
-use Rattle.sw_reactor_table.specs.Reactor.{Reactor, Ask, Take, Push, Nothing, Rest, Finished, all, each_conn, settled, counted, serves, chosen, started}
+use Rattle.sw_reactor_table.specs.Conn.{Conn, Answers, Does, Pushes, Moves, Stays, Leaves, Served, fresh, sent, takes, stops, noted, wrote, flushed_some, flushed, tidied, looked, place, pushes, plain, starve, read_by, cut_by, cuts_next, closes, can_leave, end_by, cause_by, connects, open_by, held_by, serve, account, over_link, writes}
+use Rattle.sw_reactor_table.specs.Reactor.{Reactor, Ask, Take, Push, Nothing, Rest, Finished, each_conn, settled, counted, serves, chosen, started}
 use Rattle.sw_reactor_table.specs.Runs.{Runs, First, Then}
 use Rattle.sw_reactor_laws.specs.Histories.{at_served, may_write, reads_at, writes_at, reads_in, writes_in}
 use Rattle.sw_reactor_laws.specs.Rests.{RestsOn, LinkRests}

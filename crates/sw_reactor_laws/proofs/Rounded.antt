@@ -6,11 +6,9 @@ use Rattle.sw_data.specs.declared.messages.Got.{Got}
 use Rattle.sw_lists.specs.Lists.{collect, Each, when}
 use Rattle.sw_lists.proofs.Lists.{collect-append, length_append, each_left}
 use Rattle.sw_step.specs.declared.actor.ActorId.TheVariants.{Worker}
-use Rattle.sw_record.specs.Words.{Event, Connect, Packet, Closed, Finish, Task, Cause, NoMemory, Overflow, ServerClose, ResetCause, Ended}
-use Rattle.sw_record.specs.declared.record.LinkState.TheVariants.{Over}
+use Rattle.sw_record.specs.Words.{Event, Connect, Packet, Closed, Finish, Task, Cause, NoMemory, Overflow, ServerClose, ResetCause}
 use Rattle.sw_record.specs.declared.record.LinkRecord.{LinkRecord}
 use Rattle.sw_record.specs.Terms.{Terms, packets_cut}
-use Rattle.sw_record.specs.Whole.{IsAllCut}
 use Rattle.sw_record.specs.Rounds.{rounds}
 use Rattle.sw_record.specs.Counts.{total, dispatched_of}
 use Rattle.sw_past.specs.Messages.{Message, FreshMsg, SendMsg, CloseMsg, ResetMsg, Bye, EventMsg, OverMsg, NoMore}

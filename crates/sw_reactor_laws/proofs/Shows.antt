@@ -3,25 +3,24 @@ use Rattle.std.proofs.Common.{◌≡◌, ◌⊎◌, ℕ, ◌+◌, ◌<◌, ◌�
 use Rattle.sw_frame.specs.Cut.{IsFit}
 use Rattle.sw_lists.specs.Lists.{collect, Each, Has}
 use Rattle.sw_lists.specs.Numbers.{Distinct}
-use Rattle.sw_lists.proofs.Lists.{each_append, each_at, each_more, perm_has, perm_distinct}
+use Rattle.sw_lists.proofs.Lists.{each_append, each_at, perm_has}
 use Rattle.sw_record.specs.Terms.{Terms, session_of}
-use Rattle.sw_record.specs.Words.{Cause, Ended}
+use Rattle.sw_record.specs.Words.{Ended}
 use Rattle.sw_record.specs.declared.record.LinkRecord.{LinkRecord}
-use Rattle.sw_record.specs.declared.record.LinkState.{LinkState}
-use Rattle.sw_record.specs.declared.record.LinkState.TheVariants.{Waiting, Live, Over}
+use Rattle.sw_record.specs.declared.record.LinkState.TheVariants.{Live, Over}
 use Rattle.sw_past.specs.Past.{Mail, bare}
 use Rattle.sw_past.specs.Views.{fresh_in}
 use Rattle.sw_past.specs.Routes.{IsFair}
 use Rattle.sw_join.specs.Modes.{AimOf, EndOf}
 use Rattle.sw_reactor_table.specs.Conn.{Conn, live_link}
 use Rattle.sw_reactor_table.specs.Reactor.{Reactor, Finished, all, live_links, kept}
-use Rattle.sw_reactor_table.specs.Quiet.{Quiet, QuietBy, session_in, session_over, sessions, some_list}
+use Rattle.sw_reactor_table.specs.Quiet.{Quiet, QuietBy, session_in, session_over, sessions}
 use Rattle.sw_reactor_table.specs.Runs.{Runs, Known, TellsUid}
 use Rattle.sw_reactor_laws.specs.Stopped.{CalmLink, stop_read}
 use Rattle.sw_reactor_laws.specs.Histories.{freed_in, freed_of, firsts, reads_in, writes_in}
 use Rattle.sw_reactor_laws.specs.Rests.{LinkRests}
-use Rattle.sw_reactor_laws.specs.Shows.{WasAsked, HasSession, IsEnd, EndsAllCut, TellsWord, ReactorMore, ReactorDone}
-use Rattle.sw_reactor_table.proofs.Members.{has_right, each_has}
+use Rattle.sw_reactor_laws.specs.Shows.{WasAsked, HasSession, IsEnd, TellsWord, ReactorMore, ReactorDone}
+use Rattle.sw_reactor_table.proofs.Members.{has_right}
 use Rattle.sw_reactor_table.proofs.Grows.{fit_grows}
 use Rattle.sw_reactor_table.proofs.Final.{mode_laws}
 use Rattle.sw_reactor_table.proofs.Known.{runs_known, runs_over}

@@ -4,10 +4,8 @@ use Rattle.sw_link.specs.declared.link.LinkWrite.{LinkWrite}
 use Rattle.sw_link.specs.Reads.{Read, GotPiece, ReadNotYet, ReadEnd, ReadFailed}
 use Rattle.sw_conn.specs.Causes.{hard, is_hard}
 use Rattle.sw_conn.specs.Conn.{set_soft, set_hard}
-use Rattle.sw_data.specs.declared.messages.Got.{Got}
-use Rattle.sw_data.specs.declared.messages.Got.TheVariants.{Start, Took, Empty, Pushed, Full}
+use Rattle.sw_data.specs.declared.messages.Got.TheVariants.{Start, Took}
 use Rattle.sw_link.specs.declared.link.LinkWrite.TheVariants as writing
-use Rattle.sw_data.specs.declared.messages.Got.TheVariants as gots
 use Rattle.sw_lists.specs.Lists.{Each}
 use Rattle.sw_lists.proofs.Lists.{each_right}
 use Rattle.sw_record.specs.Words.{Event, Connect, Packet, Closed, Finish, Task, Cause, TooLong, BadLength, Stop, NoMemory, Overflow, ServerClose, ResetCause, Ended}
@@ -16,8 +14,8 @@ use Rattle.sw_record.specs.declared.record.LinkRecord.{LinkRecord}
 use Rattle.sw_record.specs.Terms.{Terms, packets_cut}
 use Rattle.sw_past.specs.Messages.{Message, FreshMsg, SendMsg, CloseMsg, ResetMsg, Bye, EventMsg, OverMsg, NoMore}
 use Rattle.sw_past.specs.Past.{Mail}
-use Rattle.sw_reactor_table.specs.Conn.{cuts_next, starve, Conn, Answers, fresh, sent, takes, stops, noted, holds, at_event, wrote, flushed_some, flushed, writes, Does, Pushes, Moves, Stays, Leaves, Served, looked, place, pushes, plain, read_by, cut_by, closes, can_leave, end_by, cause_by, connects, open_by, held_by, tidied, serve, account, over_link}
-use Rattle.sw_reactor_table.specs.Reactor.{Reactor, Ask, Take, Push, Nothing, Rest, Finished, all, each_conn, settled, settled_msg, settled_push, settled_full, pushed_by, full_by, turned, stayed, served_by, counted, ends_by, serves, chosen, turn, started}
+use Rattle.sw_reactor_table.specs.Conn.{cuts_next, starve, Conn, Answers, sent, takes, stops, noted, wrote, flushed_some, flushed, writes, Does, Pushes, Moves, Stays, Leaves, Served, looked, place, pushes, plain, read_by, cut_by, closes, can_leave, end_by, cause_by, connects, open_by, held_by, tidied, serve, account, over_link}
+use Rattle.sw_reactor_table.specs.Reactor.{Reactor, Ask, Take, Push, Nothing, Rest, Finished, each_conn, settled, counted, serves, chosen, turn, started}
 use Rattle.sw_reactor_table.specs.Runs.{Runs, First, Then}
 use Rattle.sw_reactor_laws.specs.Stopped.{CalmOf, Calm, CalmLink, stop_at, stop_read}
 use Rattle.sw_reactor_table.proofs.Everywhere.{settled_over}
@@ -26,7 +24,6 @@ use Rattle.sw_frame.specs.Cutting.{next_by, next_rest}
 use Rattle.sw_frame.specs.Cut.{cut}
 use Rattle.sw_cut.specs.declared.First.{First as FirstOf}
 use Rattle.sw_cut.specs.declared.First.TheVariants as first
-use Rattle.sw_frame.specs.declared.next.Next.{Next}
 use Rattle.sw_frame.specs.declared.next.Next.TheVariants as next
 
 -- a serve

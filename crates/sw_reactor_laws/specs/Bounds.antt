@@ -6,11 +6,10 @@ use Rattle.sw_conn.specs.declared.conn.Phase.{Phase}
 use Rattle.sw_conn.specs.declared.conn.Phase.TheVariants.{Coming, Open, Closing}
 use Rattle.sw_conn.specs.Causes.{is_packet_event}
 use Rattle.sw_record.specs.Words.{Event, Connect, Packet, Closed, Finish, Task}
-use Rattle.sw_record.specs.Terms.{Terms}
 use Rattle.sw_past.specs.Messages.{Message, FreshMsg, SendMsg, CloseMsg, ResetMsg, Bye, EventMsg, OverMsg, NoMore}
-use Rattle.sw_reactor_table.specs.Conn.{Conn, Answers, Pushes, serve}
+use Rattle.sw_reactor_table.specs.Conn.{Conn}
 use Rattle.sw_reactor_table.specs.Reactor.{Reactor, Ask, Take, Push, Nothing, Rest, Finished, all}
-use Rattle.sw_reactor_table.specs.Quiet.{IsOf, IsIdle, session_in}
+use Rattle.sw_reactor_table.specs.Quiet.{IsOf, session_in}
 
 -- an event may be noted: Connect and Closed once each, and a packet as long as there are numbers
 abbrev pub MayNote : Phase → ℕ → Event → Type 0

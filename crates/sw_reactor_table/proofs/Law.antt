@@ -8,9 +8,7 @@ use Rattle.sw_lists.specs.Numbers.{Rises}
 use Rattle.sw_lists.proofs.Lists.{each_append, each_left, each_more, rises_left}
 use Rattle.sw_step.specs.declared.actor.ActorId.{ActorId}
 use Rattle.sw_step.specs.declared.actor.ActorId.TheVariants.{Worker}
-use Rattle.sw_record.specs.Words.{Event, Connect, Packet, Closed, Finish, Task, Cause, PeerEnd, Ended}
-use Rattle.sw_record.specs.declared.record.LinkState.{LinkState}
-use Rattle.sw_record.specs.declared.record.LinkState.TheVariants.{Waiting, Live, Over}
+use Rattle.sw_record.specs.Words.{Event, Connect, Packet, Closed, Finish, Task}
 use Rattle.sw_record.specs.declared.record.LinkRecord.{LinkRecord}
 use Rattle.sw_record.specs.Terms.{Terms, session_of}
 use Rattle.sw_past.specs.Messages.{Message, FreshMsg, SendMsg, CloseMsg, ResetMsg, Bye, EventMsg, OverMsg, NoMore}

@@ -2,7 +2,7 @@
 use Rattle.std.proofs.Common.{◌≡◌, ◌⊎◌, ℕ, List, [], ◌∷◌, ◌++◌, slice_get, Some, subst, inl, inr, zero, suc}
 use Rattle.sw_lists.specs.Lists.{Each, Has}
 use Rattle.sw_lists.specs.Numbers.{Distinct}
-use Rattle.sw_lists.proofs.Lists.{each_left, each_right}
+use Rattle.sw_lists.proofs.Lists.{each_right}
 
 pub each_has : {A : Type 0} (P : A → Type 0) (xs : List A) → Each P xs → (x : A) → Has x xs → P x
 each_has P [] h x (zero, e) = absurd (cc)

@@ -10,7 +10,6 @@ use Rattle.sw_conn.specs.Modes.{bound}
 use Rattle.sw_conn.specs.Causes.{hard, is_hard, drops}
 use Rattle.sw_conn.specs.Conn.{drop_packet, has_unsent}
 use Rattle.sw_link.specs.declared.link.LinkWrite.TheVariants as writing
-use Rattle.sw_frame.specs.declared.next.Next.{Next}
 use Rattle.sw_frame.specs.declared.next.Next.TheVariants as next
 use Rattle.sw_lists.specs.Lists.{collect}
 use Rattle.sw_lists.proofs.Lists.{eq_same, eq_is, length_append}

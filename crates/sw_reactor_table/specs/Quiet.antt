@@ -12,14 +12,13 @@ use Rattle.sw_lists.specs.Perm.{Perm}
 use Rattle.sw_lists.specs.Numbers.{Distinct}
 use Rattle.sw_step.specs.declared.actor.ActorId.{ActorId}
 use Rattle.sw_step.specs.declared.actor.ActorId.TheVariants.{Door, Worker}
-use Rattle.sw_record.specs.Words.{Event, Connect, Packet, Closed, Finish, Task, Cause, PeerEnd, ServerClose, ResetCause, Overflow, Ended}
-use Rattle.sw_record.specs.declared.record.LinkState.{LinkState}
-use Rattle.sw_record.specs.declared.record.LinkState.TheVariants.{Live, Over}
+use Rattle.sw_record.specs.Words.{Event, Connect, Packet, Closed, Finish, Task, Cause, ServerClose, ResetCause, Overflow, Ended}
+use Rattle.sw_record.specs.declared.record.LinkState.TheVariants.{Over}
 use Rattle.sw_record.specs.declared.record.LinkRecord.{LinkRecord}
 use Rattle.sw_record.specs.Terms.{Terms, keeps, reactor_of, session_of, packets_cut}
 use Rattle.sw_record.specs.Order.{target, side}
 use Rattle.sw_record.specs.Whole.{IsAllCut}
-use Rattle.sw_past.specs.Messages.{Message, FreshMsg, SendMsg, CloseMsg, ResetMsg, Bye, EventMsg, OverMsg, NoMore}
+use Rattle.sw_past.specs.Messages.{Message, FreshMsg, SendMsg, EventMsg}
 use Rattle.sw_past.specs.Past.{Mail, bare}
 use Rattle.sw_past.specs.Views.{story_in, fresh_in, sends_in, byes_in, due_in, close_of, reset_of}
 use Rattle.sw_past.specs.Routes.{IsRouted, IsFair}

@@ -2,7 +2,7 @@
 use Rattle.std.proofs.Common.{◌≡◌, ◌≢◌, ◌<◌, ◌≤◌, ◌+◌, ◌*◌, ◌%◌, inl, inr, ℕ, zero, suc, Bool, true, false, List, [], ◌∷◌, ◌++◌, map, length, length-set, set, slice_get, sym, refl, ap, ◌∙◌, subst, ⊎_elim, Option, Some, None, MatchOption, arith}
 use Rattle.std.specs.Option.{unwrap_or}
 use mathlib.Core.Option as M
-use mathlib.Core.Option.{some, none, some-injective, some-ne-none}
+use mathlib.Core.Option.{some, some-injective}
 use lib.ListN.{get_elem?}
 use Rattle.sw_rowlock.specs.declared.calls.Contents.{Contents}
 use Rattle.sw_rowlock.specs.declared.calls.Slot.{Slot}

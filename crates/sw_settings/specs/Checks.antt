@@ -7,10 +7,10 @@ use Rattle.sw_settings.specs.declared.pair.SetValue.{SetValue}
 use Rattle.sw_settings.specs.declared.pair.SetValue.TheVariants as values
 use Rattle.sw_settings.specs.declared.pair.Pair.{Pair}
 use Rattle.sw_settings.specs.declared.checks.Check.{Check}
-use Rattle.sw_settings.specs.declared.checks.Check.TheVariants.{Core, Known, Kind, Range}
+use Rattle.sw_settings.specs.declared.checks.Check.TheVariants.{Known, Kind, Range}
 use Rattle.sw_settings.specs.declared.keys.Rule.{Rule}
 use Rattle.sw_settings.specs.declared.keys.Rule.TheVariants.{Truth, Number, Text, Letter, Columns}
-use Rattle.sw_settings.specs.Keys.{rule_of, letter_of, is_core_key}
+use Rattle.sw_settings.specs.Keys.{rule_of, letter_of}
 use Rattle.sw_settings.specs.Columns.{are_columns}
 
 -- ---- what a check refuses
@@ -76,13 +76,11 @@ is_in_range Letter v = true
 is_in_range Columns v = true
 
 abbrev pub is_of_no_key : Check → Bool
-is_of_no_key Core = true
 is_of_no_key Known = true
 is_of_no_key Kind = false
 is_of_no_key Range = false
 
 abbrev pub breaks : Check → Rule → Pair → Bool
-breaks Core r p = not (is_core_key p.name)
 breaks Known r p = false
 breaks Kind r p = not (is_of_kind r p.value)
 breaks Range r p = not (is_in_range r p.value)
@@ -91,8 +89,7 @@ abbrev pub fails_by : Check → Option Rule → Pair → Bool
 fails_by check None p = is_of_no_key check
 fails_by check (Some r) p = breaks check r p
 
--- the check refuses the pair: its name is no key, or none that the core knows so far, its value isn't of the key's kind, or
--- isn't in the key's range
+-- the check refuses the pair: its name is no key, its value isn't of the key's kind, or isn't in the key's range
 unfoldable pub fails : Check → Pair → Bool
 fails check p = fails_by check (rule_of p.name) p
 

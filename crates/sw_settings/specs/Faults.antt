@@ -83,10 +83,6 @@ pairs_fault ps = option_or (unknown_fault ps) (from_type ps)
 unfoldable pub fault_of : List Pair → Option SettingsFault
 fault_of ps = option_or (pairs_fault ps) (column_fault (values_of ps))
 
--- a name is a key that the core of drills doesn't know so far, or no key; that comes before all else there
-unfoldable pub core_fault : List Pair → Option SettingsFault
-core_fault ps = option_map Unknown (first_key checks.Core ps)
-
 -- the answer is that refusal, or there was no memory
 abbrev pub IsRefusal : Option SettingsFault → SettingsFault → Type 0
 IsRefusal None f = f ≡ OutOfMemory

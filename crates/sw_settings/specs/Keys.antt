@@ -1,5 +1,5 @@
 -- The table of keys.
-use Rattle.std.specs.Prelude.{ℕ, ◌≤◌, List, Bool, true, false, [], ◌∷◌, codes, Option, Some, None, if◌then◌else◌}
+use Rattle.std.specs.Prelude.{ℕ, ◌≤◌, List, [], ◌∷◌, codes, Option, Some, None, if◌then◌else◌}
 use Rattle.std.specs.Str.{bytes_eq}
 use Rattle.sw_frame_len.specs.declared.rule.Letter.{Letter as Letters}
 use Rattle.sw_frame_len.specs.declared.rule.Letter.TheVariants as letters
@@ -46,24 +46,6 @@ rule_of name = rule_in keys name
 abbrev pub IsSoundRule : Rule → Type 0
 IsSoundRule (Number least most default) = (least ≤ default) × (default ≤ most)
 IsSoundRule _ = Unit {0}
-
--- the keys that the core knows so far
-abbrev pub core_keys : List (List ℕ)
-core_keys = codes "open_eof_split"
-    ∷ codes "open_length_check"
-    ∷ codes "package_body_offset"
-    ∷ codes "package_eof"
-    ∷ codes "package_length_offset"
-    ∷ codes "package_length_type"
-    ∷ codes "package_max_length"
-    ∷ []
-
-abbrev pub is_among : List (List ℕ) → List ℕ → Bool
-is_among [] name = false
-is_among (n ∷ ns) name = if bytes_eq name n then true else is_among ns name
-
-unfoldable pub is_core_key : List ℕ → Bool
-is_core_key name = is_among core_keys name
 
 -- the letter that a text is, if it is one of the five
 abbrev pub letter_of : List ℕ → Option Letters

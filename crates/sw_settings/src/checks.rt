@@ -5,7 +5,7 @@ ghost use Rattle.std.specs.Option.{option_copied};
 ghost use Rattle.sw_settings.specs.Checks.{is_word, fits_word, is_text, is_truth, is_letter, is_columns, is_of_kind, in_bounds, number_within, length_within, is_in_range, is_of_no_key, breaks, fails, is_before, earlier, earlier_or, first_with, first_key, IsFirstKey};
 
 use crate::columns::are_columns;
-use crate::keys::{Rule, is_core_key, letter_of, rule_of};
+use crate::keys::{Rule, letter_of, rule_of};
 use crate::pair::{Pair, SetValue};
 use std::alloc::Global;
 use sw_base::{Octets, OutOfMemory};
@@ -13,8 +13,6 @@ use sw_base::{Octets, OutOfMemory};
 /// What a pair is tested for, in the order in which it is.
 #[derive(Clone, Copy)]
 pub enum Check {
-    /// Its name is a key that the core of drills knows so far.
-    Core,
     /// Its name is a key.
     Known,
     /// Its value is of the key's kind.
@@ -143,7 +141,6 @@ fn is_of_no_key(check: Check) -> bool
     ensures { result ≡ is_of_no_key check }
 {
     match check {
-        Check::Core => true,
         Check::Known => true,
         Check::Kind => false,
         Check::Range => false,
@@ -155,7 +152,6 @@ fn breaks(alloc: Global, check: Check, rule: Rule, pair: &Pair) -> Result<bool, 
     ensures { IfOk result (λ b. b ≡ breaks check rule pair.now) }
 {
     match check {
-        Check::Core => Ok(!is_core_key(pair.name.bytes())),
         Check::Known => Ok(false),
         Check::Kind => Ok(!is_of_kind(alloc, rule, &pair.value)?),
         Check::Range => Ok(!is_in_range(rule, &pair.value)),

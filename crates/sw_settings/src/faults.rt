@@ -3,7 +3,7 @@
 ghost use Rattle.std.specs.Prelude.{◌≡◌, IfOk, codes, None, Some};
 ghost use Rattle.std.specs.Option.{option_copied};
 ghost use Rattle.sw_settings.specs.Checks.{first_key};
-ghost use Rattle.sw_settings.specs.Faults.{unknown_fault, type_fault, range_fault, out_of_range, missing_fault, conflict_fault, pairs_fault, core_fault, from_type, from_range, from_missing};
+ghost use Rattle.sw_settings.specs.Faults.{unknown_fault, type_fault, range_fault, out_of_range, missing_fault, conflict_fault, pairs_fault, from_type, from_range, from_missing};
 
 use crate::checks::{Check, first_key};
 use crate::given::{keeps_set, text, truth};
@@ -181,16 +181,5 @@ pub fn pairs_fault(alloc: Global, pairs: &[Pair]) -> Result<Option<SettingsFault
     match unknown_fault(alloc, pairs)? {
         Some(fault) => Ok(Some(fault)),
         None => from_type(alloc, pairs),
-    }
-}
-
-/// The refusal of the first key, in byte order, that the core of drills doesn't know so far. None exactly where it knows all.
-#[tactic(auto, unfolding(crate::specs::Faults::core_fault))]
-pub fn core_fault(alloc: Global, pairs: &[Pair]) -> Result<Option<SettingsFault>, OutOfMemory>
-    ensures { IfOk result (λ f. f ≡ core_fault pairs.now) }
-{
-    match refused(alloc, Check::Core, pairs)? {
-        None => Ok(None),
-        Some(name) => Ok(Some(SettingsFault::Unknown(name))),
     }
 }

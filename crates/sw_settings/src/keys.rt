@@ -1,7 +1,7 @@
 //! The table of keys: what each may be set to, and what it is where it isn't set.
 
 ghost use Rattle.std.specs.Prelude.{◌≡◌, map, IfSome};
-ghost use Rattle.sw_settings.specs.Keys.{rule_in, rule_of, letter_of, is_among, is_core_key, IsSoundRule};
+ghost use Rattle.sw_settings.specs.Keys.{rule_in, rule_of, letter_of, IsSoundRule};
 
 use sw_frame_len::Letter;
 use sw_text::is;
@@ -68,17 +68,6 @@ pub const KEYS: [(&str, Rule); 23] = [
     ("worker_num", number!(1 to 64, default 1)),
 ];
 
-/// The keys that the core which drills play knows so far: a drill that sets another one is refused as if it weren't a key.
-pub const CORE_KEYS: [&str; 7] = [
-    "open_eof_split",
-    "open_length_check",
-    "package_body_offset",
-    "package_eof",
-    "package_length_offset",
-    "package_length_type",
-    "package_max_length",
-];
-
 fn rule_in(mut table: &[(&str, Rule)], name: &[u8]) -> Option<Rule>
     ensures { result ≡ rule_in (map (λ row. (row.0.now, row.1)) table.entry.now) name.now }
 {
@@ -98,26 +87,6 @@ pub fn rule_of(name: &[u8]) -> Option<Rule>
     ensures sound { IfSome result IsSoundRule }
 {
     rule_in(&KEYS, name)
-}
-
-/// Whether the key is one that the core which drills play knows so far.
-#[tactic(auto, unfolding(crate::specs::Keys::is_core_key))]
-pub fn is_core_key(name: &[u8]) -> bool
-    ensures { result ≡ is_core_key name.now }
-{
-    is_among(&CORE_KEYS, name)
-}
-
-fn is_among(mut names: &[&str], name: &[u8]) -> bool
-    ensures { result ≡ is_among (map (λ n. n.now) names.entry.now) name.now }
-{
-    while let [first, rest @ ..] = names {
-        if is(name, first) {
-            return true;
-        }
-        names = rest;
-    }
-    false
 }
 
 /// The letter that a text is. None exactly where it is none of the five.

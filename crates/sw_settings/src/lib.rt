@@ -14,7 +14,7 @@ mod settings;
 mod values;
 
 pub use checks::{Check, first_key_is_exact};
-pub use faults::{SettingsFault, core_fault};
+pub use faults::SettingsFault;
 pub use keys::{KEYS, Rule};
 pub use pair::{Pair, SetValue};
 pub use settings::{Settings, from_pairs};

@@ -11,27 +11,17 @@ use Rattle.std.proofs.lemmas.List.{take_all}
 use Rattle.std.proofs.lemmas.List.Elements.{All-head, All-tail}
 use Rattle.sw_base.specs.declared.table.Value.{Value}
 use Rattle.sw_column.specs.declared.column.Column.{Column}
-use Rattle.sw_column.specs.Fit.{is_key}
 use Rattle.sw_table_laws.specs.Table.{State, Shape, bucket, part, sum_below, used, has_room}
 use Rattle.sw_table_laws.proofs.Maps.{same_state, get_part, get_own, part_inserted, part_beside}
 use Rattle.sw_table_laws.proofs.Sums.{sum_change}
 use Rattle.sw_table_laws.proofs.Lengths.{no_rows_in}
-use Rattle.sw_table_laws.proofs.BucketLaws.{rows_bounded}
-use Rattle.sw_rowlock.specs.History.{calls, Begins, AllBegin, DrewAll, Each}
-use Rattle.sw_rowlock.specs.Seats.{all_parts}
-use Rattle.sw_rowlock.specs.Told.{RowLeft, LookedAt}
-use Rattle.sw_table_laws.specs.Buckets.{BucketNow}
-use Rattle.sw_table_join.specs.declared.table_call.TableCall.{TableCall}
-use Rattle.sw_table_join.specs.Calls.{call_row, call_asks, call_does, IsFor}
-use Rattle.sw_table_join.specs.Histories.{history}
-use Rattle.sw_table_join.specs.Tables.{SharedNow, SeatView, IsShared, IsReady, shape_of, rows_after}
-use Rattle.sw_table_join.proofs.Answering.{taken, the_history}
+use Rattle.sw_table_join.specs.Tables.{SharedNow, shape_of}
 use Rattle.sw_tmodel.specs.Plain as plains
 use Rattle.sw_tmodel.specs.Plain.{PlainTable}
 use Rattle.sw_row.specs.Packed.{Packed}
-use Rattle.sw_bucket.specs.Rows.{entry_of, rows_by, row_at, IsPacked, IsBucket}
+use Rattle.sw_bucket.specs.Rows.{rows_by, row_at, IsBucket}
 use Rattle.sw_bucket.proofs.Listed.{get_at, len_first, not_before, rows_more}
-use Rattle.sw_table.specs.Closing.{plain_of, IsFilled, IsCopied, IsDrained}
+use Rattle.sw_table.specs.Closing.{plain_of, IsFilled, IsCopied}
 
 -- ---- room
 

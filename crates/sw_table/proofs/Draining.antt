@@ -3,10 +3,9 @@ use Rattle.std.proofs.Common.{◌≡◌, ℕ, zero, suc, ◌+◌, ◌*◌, ◌<�
 use Rattle.std.specs.Prelude.{slice_get, All}
 use Rattle.sw_column.specs.declared.column.Column.{Column}
 use Rattle.std.specs.FinMap as fin
-use Rattle.sw_table_laws.specs.Table.{State, Legal, bucket, part, used}
-use Rattle.sw_table_laws.specs.Buckets.{BucketNow, PoolNow}
+use Rattle.sw_table_laws.specs.Table.{Legal, bucket, part, used}
+use Rattle.sw_table_laws.specs.Buckets.{BucketNow}
 use Rattle.sw_table_laws.proofs.BucketLaws.{rows_bounded}
-use Rattle.sw_rowlock.specs.declared.calls.Contents.{Contents}
 use Rattle.sw_rowlock.specs.History.{calls, others, AllBegin, Each, DrewAll}
 use Rattle.sw_rowlock.specs.Calls as locks
 use Rattle.sw_rowlock.specs.Seats.{all_parts}

@@ -6,29 +6,25 @@ use Rattle.std.proofs.lemmas.List.{length-replicate}
 use Rattle.sw_base.specs.declared.table.Value.{Value}
 use Rattle.sw_base.specs.declared.table.Call.{Call}
 use Rattle.sw_base.specs.declared.table.CallFault.{CallFault}
-use Rattle.sw_base.specs.declared.table.CallFault.TheVariants.{Busy, Spent}
+use Rattle.sw_base.specs.declared.table.CallFault.TheVariants.{Spent}
 use Rattle.sw_base.specs.declared.table.Reply.{Reply}
 use Rattle.sw_base.specs.declared.table.Reply.TheVariants as replies
-use Rattle.sw_base.specs.declared.table.WordId.TheVariants as words
 use Rattle.sw_column.specs.Fit.{call_fault}
 use Rattle.sw_port_shelf.specs.declared.shelf.Placed.{Placed}
 use Rattle.sw_table_laws.specs.Table.{State, Step, bucket, shown, shown_for}
 use Rattle.sw_table_laws.specs.Buckets as buckets
 use Rattle.sw_table_laws.specs.Buckets.{BucketNow, PoolNow, asks_pool, bucket_step}
 use Rattle.sw_table_laws.specs.Laws.{key_of}
-use Rattle.sw_rowlock.specs.declared.calls.Contents.{Contents}
-use Rattle.sw_rowlock.specs.declared.calls.Change.{Change}
 use Rattle.sw_rowlock.specs.declared.calls.Change.TheVariants.{Same}
 use Rattle.sw_rowlock.specs.declared.locks.DrawFault.{DrawFault}
 use Rattle.sw_rowlock.specs.declared.locks.DrawFault.TheVariants as draws
-use Rattle.sw_rowlock.specs.History.{calls, others}
 use Rattle.sw_rowlock.specs.Calls.{Done}
 use Rattle.sw_rowlock.specs.Seats.{IsSeatOf, pool_number, HoldsRow, HoldsPool, bucket_held, row_left, pool_left, pool_held, done_on, row_then, pool_then}
 use Rattle.sw_rowlock.specs.Told.{RowLeft, DrewAt}
-use Rattle.sw_rowlock.specs.Faults.{RefusedBy, SpentAt, MovedAt}
+use Rattle.sw_rowlock.specs.Faults.{RefusedBy}
 use Rattle.sw_table_join.specs.declared.table_call.TableCall.{TableCall}
-use Rattle.sw_table_join.specs.Calls.{Answer, bucket_at, call_row, call_asks, call_does, done_in, change_from, IsFor}
-use Rattle.sw_table_join.specs.Tables.{SharedNow, SeatView, IsShared, IsReady, shape_of, call_on}
+use Rattle.sw_table_join.specs.Calls.{Answer, bucket_at, call_row, call_asks, call_does, done_in, IsFor}
+use Rattle.sw_table_join.specs.Tables.{SharedNow, SeatView, IsShared, IsReady, call_on}
 use Rattle.sw_table_join.specs.Answers.{Answered, NotPlaced, PoolTaken, FoundTaken, RefusedFor, Refused}
 use Rattle.sw_table_join.proofs.Answering.{may_have, answers_follow, refusals_follow, buckets_follow, pools_follow}
 use Rattle.sw_row.specs.Packed.{Packed}

@@ -3,9 +3,8 @@ use Rattle.std.proofs.Common.{◌≡◌, ◌≢◌, ℕ, zero, suc, ◌+◌, ◌
 use Rattle.std.specs.Prelude.{sum_by}
 use Rattle.std.proofs.lemmas.List.Elements.{All-nil, All-cons, All-head, All-tail}
 use Rattle.std.proofs.lemmas.List.Sums.{sum_by-cons}
-use Rattle.sw_rowlock.specs.History.{below, calls, others, merged, Begins, AllBegin, times_drawn, draws_from, draws_of, placed_from, DrewAll}
+use Rattle.sw_rowlock.specs.History.{below, calls, others, merged, Begins, AllBegin, times_drawn, draws_from, placed_from, DrewAll}
 use Rattle.sw_rowlock.specs.Seats.{IsSeatOf, all_parts}
-use Rattle.sw_table_join.specs.declared.table_call.TableCall.{TableCall}
 use Rattle.sw_table_join.specs.Tables.{SharedNow, SeatView, IsReady, IsHands}
 use Rattle.sw_table.specs.Closing.{IsJoined, IsDrained, Closed, times_by_all}
 

@@ -7,7 +7,7 @@ use Rattle.std.proofs.lemmas.Bool.Decides.{nat_tests}
 use Rattle.std.proofs.lemmas.List.{length-replicate}
 use Rattle.sw_column.specs.declared.column.Column.{Column}
 use Rattle.sw_column.specs.Columns.{IsSchema}
-use Rattle.sw_table_laws.specs.Sizes.{raised, pool_of}
+use Rattle.sw_table_laws.specs.Sizes.{raised}
 use Rattle.sw_table_laws.specs.Laws.{IsRaised}
 use Rattle.sw_table_laws.specs.Buckets.{BucketNow, PoolNow}
 use Rattle.sw_table_laws.proofs.RaisedLaws.{size_is_raised}

@@ -14,7 +14,7 @@ use Rattle.sw_table_join.specs.declared.table_call.TableCall.{TableCall}
 use Rattle.sw_table_join.specs.Histories.{history}
 use Rattle.sw_table_join.specs.Tables.{SharedNow, SeatView, shape_of, call_on, rows_after}
 use Rattle.sw_table_join.specs.Answers.{Answered, NotPlaced, RefusedFor, Refused}
-use Rattle.sw_table.specs.Waiting.{is_busy, Waited, NoneLeft, GivenUpFor, GivenUp}
+use Rattle.sw_table.specs.Waiting.{is_busy, Waited, GivenUpFor, GivenUp}
 
 module _ {Q : Type 0} where
   none_end : (xs : List (ℕ × Q)) → xs ++ [] ≡ xs

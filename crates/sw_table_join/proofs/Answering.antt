@@ -15,7 +15,6 @@ use Rattle.sw_table_laws.proofs.BucketSteps.{bucket_is_enough}
 use Rattle.sw_rowlock.specs.declared.calls.Contents.{Contents}
 use Rattle.sw_rowlock.specs.History.{calls, others, Begins, Each, draws_of, times_drawn}
 use Rattle.sw_rowlock.specs.Calls as locks
-use Rattle.sw_rowlock.specs.Calls.{done, bucket_for}
 use Rattle.sw_rowlock.specs.Seats.{done_on, pool_number, sequence_number}
 use Rattle.sw_rowlock.specs.Told.{RowLeft, DrewAt}
 use Rattle.sw_rowlock.specs.Faults.{SpentAt, MovedAt}

@@ -30,7 +30,7 @@ use Rattle.sw_rowlock.specs.declared.calls.Change.TheVariants.{Same, More, Less}
 use Rattle.sw_rowlock.specs.declared.calls.Contents.{Contents}
 use Rattle.sw_rowlock.specs.History.{Each}
 use Rattle.sw_rowlock.specs.Calls as calls
-use Rattle.sw_rowlock.specs.Calls.{Done, contents, counted, pool_for, pool_after, bucket_for, rows_after, done, effect}
+use Rattle.sw_rowlock.specs.Calls.{contents, counted, pool_for, pool_after, bucket_for, rows_after, done, effect}
 use Rattle.sw_table_join.specs.declared.table_call.TableCall.{TableCall}
 use Rattle.sw_table_join.specs.Calls.{Answer, bucket_at, call_row, call_asks, call_does, empty_bucket, IsFor}
 use Rattle.sw_table_join.specs.Histories.{history_from, history, Starts, Mirrors}

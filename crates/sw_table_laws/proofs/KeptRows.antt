@@ -8,7 +8,7 @@ use Rattle.sw_base.specs.declared.table.Call.TheVariants.{Set, Get, Exist, Del, 
 use Rattle.sw_base.specs.declared.table.CallFault.{CallFault}
 use Rattle.sw_base.specs.declared.table.CallFault.TheVariants.{BadKey}
 use Rattle.sw_base.specs.declared.table.Reply.TheVariants as replies
-use Rattle.sw_base.specs.declared.table.Reply.TheVariants.{Stored, Full}
+use Rattle.sw_base.specs.declared.table.Reply.TheVariants.{Stored}
 use Rattle.sw_column.specs.declared.column.Column.{Column}
 use Rattle.sw_column.specs.Columns.{column_of, IsSchema}
 use Rattle.sw_column.specs.Fit.{fits, is_key, pairs_fault, counter_fault}

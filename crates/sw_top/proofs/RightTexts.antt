@@ -1,9 +1,8 @@
 -- What is written at Ok for a drill is the text of a right record.
-use Rattle.std.proofs.Common.{ℕ, List, refl, Option, Some, None}
+use Rattle.std.proofs.Common.{ℕ, List, Option, Some, None}
 use Rattle.sw_answer.specs.declared.status.Status.{Status}
 use Rattle.sw_answer.specs.declared.status.Status.TheVariants as statuses
-use Rattle.sw_drill.specs.Draft.{drill_of}
-use Rattle.sw_play.proofs.RightTexts.{right_answer}
+use Rattle.sw_play.proofs.Texts.{right_text}
 use Rattle.sw_top.specs.Says.{FromSource, FromSink, DueBy, Said}
 use Rattle.sw_top.specs.Rightly.{IsRightFor, PrintsRight}
 use Rattle.sw_top.specs.declared.words.Command.{Command}
@@ -12,7 +11,7 @@ use Rattle.sw_top.specs.Words.{command_of}
 
 right_for : (o : Option Command) (s : FromSource) (text : List ℕ) → DueBy o s statuses.Ok text → IsRightFor o s text
 right_for None s text m = tt
-right_for (Some DrillCommand) s text m = (m.0, m.1, right_answer m.0 text (drill_of m.0) refl m.2)
+right_for (Some DrillCommand) s text m = (m.0, m.1, right_text m.0 text m.2)
 right_for (Some Audit) s text m = tt
 right_for (Some SettingsCommand) s text m = tt
 right_for (Some Timers) s text m = tt

@@ -1,28 +1,23 @@
 use Rattle.std.proofs.Common.{◌≡◌, ℕ, ◌≤◌, false, true≢false, List, ◌++◌, length, Option, Some, None, Result, Ok, Err, refl, ap, sym, subst, ◌∙◌, inl, inr, arith, length-append}
 use Rattle.std.proofs.lemmas.List.{append-nil}
-use Rattle.std.specs.Option.{option_or}
-use Rattle.std.specs.Prelude.{IfOk}
-use Rattle.sw_base.specs.declared.out_of_memory.OutOfMemory.{OutOfMemory}
 use Rattle.std.specs.Io.KnownBytes.{Consumes, IsAtEnd}
-use Rattle.sw_drill.specs.declared.schedule.Drill.{Drill}
+use Rattle.sw_schedule.specs.declared.schedule.Schedule.{Schedule}
 use Rattle.sw_text.specs.Parts.{lines_of}
 use Rattle.sw_timers_text.specs.declared.line.Line.{Line as TimerLine}
 use Rattle.sw_timers_text.specs.Grammar.{lines_from}
 use Rattle.sw_timers_text.specs.Prints.{IsTimedBy}
-use Rattle.sw_drill.specs.Draft.{drill_of}
+use Rattle.sw_schedule.specs.Draft.{schedule_of}
 use Rattle.sw_settings.specs.declared.faults.SettingsFault.{SettingsFault}
 use Rattle.sw_settings.specs.declared.values.Values.{Values}
-use Rattle.sw_settings.specs.declared.pair.Pair.{Pair}
-use Rattle.sw_settings.specs.Faults.{IsRefusal, core_fault, fault_of}
+use Rattle.sw_settings.specs.Faults.{fault_of}
 use Rattle.sw_settings_json.specs.Json.{json_settings}
 use Rattle.sw_answer.specs.declared.refusal.Refusal.{Refusal}
 use Rattle.sw_answer.specs.declared.refusal.Refusal.TheVariants.{Line, Settings, Place, Unfit}
 use Rattle.sw_top.specs.declared.words.Command.{Command}
 use Rattle.sw_top.specs.declared.words.Command.TheVariants.{Drill as DrillCommand, Audit, Settings as SettingsCommand, Timers, Dump, Restore}
 use Rattle.sw_top.specs.Answering.{Answers, shown}
-use Rattle.sw_play.specs.Faults.{drill_fault}
-use Rattle.sw_answer.specs.Refusals.{is_memory, refusal_text, refusal_status}
-use Rattle.sw_play.specs.Run.{played_or, answered}
+use Rattle.sw_answer.specs.Refusals.{refusal_text, refusal_status}
+use Rattle.sw_play.specs.Answers.{AnswersBy}
 use Rattle.sw_top.specs.Words.{command_of}
 use Rattle.sw_top.specs.Says.{FromSource, FromSink, IsInput, IsAnswered, IsWritten, IsCut, Due, DueBy, Meant, Finishes, cut_status, DoesBy, Said, expected_by, expected, settings_status, timers_status, Expected, IsComplete}
 use Rattle.sw_answer.specs.declared.status.Status.{Status}
@@ -77,29 +72,25 @@ part_of (Some bs) input bytes e = omega (arith, ap length e, length-append input
 is_input : (s : FromSource) (input bytes : List ℕ) → IsInput s input → s.left ≡ Some bytes → input ≡ bytes
 is_input s input bytes i e = all_of s.left_new input bytes (subst (λ l. Consumes l s.left_new input) e i.came) i.all
 
-ok_by : (d : Drill) (o : Option SettingsFault) (text : List ℕ) → played_or d o ≡ Ok text → expected_by o ≡ statuses.Ok
-ok_by d None text e = refl
-ok_by d (Some fault) text e = absurd cc
+ok_by : (o : Option SettingsFault) → o ≡ None → statuses.Ok ≡ expected_by o
+ok_by None e = refl
+ok_by (Some fault) e = absurd cc
 
-ok_answer : (r : Result Drill ℕ) (text : List ℕ) → answered r ≡ Ok text → expected r ≡ statuses.Ok
-ok_answer (Ok d) text e = ok_by d (drill_fault d.pairs) text e
-ok_answer (Err n) text e = absurd cc
+ok_answer : (r : Result Schedule ℕ) (text : List ℕ) → AnswersBy r (Ok text) → statuses.Ok ≡ expected r
+ok_answer (Ok s) text a = ok_by (fault_of s.pairs) a.0
+ok_answer (Err n) text a = absurd cc
 
-line_by : (d : Drill) (o : Option SettingsFault) (n : ℕ) → played_or d o ≡ Err (Line n) → ⊥
-line_by d None n e = cc
-line_by d (Some fault) n e = cc
+line_answer : (r : Result Schedule ℕ) (n : ℕ) → AnswersBy r (Err (Line n)) → statuses.BadLine n ≡ expected r
+line_answer (Ok s) n a = absurd a
+line_answer (Err m) n a = let f : n ≡ m = cc in ap (λ (x : ℕ). statuses.BadLine x) f
 
-line_answer : (r : Result Drill ℕ) (n : ℕ) → answered r ≡ Err (Line n) → expected r ≡ statuses.BadLine n
-line_answer (Ok d) n e = absurd (line_by d (drill_fault d.pairs) n e)
-line_answer (Err m) n e = let f : m ≡ n = cc in ap (λ (x : ℕ). statuses.BadLine x) f
+settings_by : (o : Option SettingsFault) (fault : SettingsFault) → o ≡ Some fault → statuses.Settings fault ≡ expected_by o
+settings_by None fault e = absurd cc
+settings_by (Some g) fault e = let f : fault ≡ g = cc in ap (λ (x : SettingsFault). statuses.Settings x) f
 
-settings_by : (d : Drill) (o : Option SettingsFault) (fault : SettingsFault) → played_or d o ≡ Err (Settings fault) → expected_by o ≡ statuses.Settings fault
-settings_by d None fault e = absurd cc
-settings_by d (Some g) fault e = let f : g ≡ fault = cc in ap (λ (x : SettingsFault). statuses.Settings x) f
-
-settings_answer : (r : Result Drill ℕ) (fault : SettingsFault) → answered r ≡ Err (Settings fault) → expected r ≡ statuses.Settings fault
-settings_answer (Ok d) fault e = settings_by d (drill_fault d.pairs) fault e
-settings_answer (Err m) fault e = absurd cc
+settings_answer : (r : Result Schedule ℕ) (fault : SettingsFault) → AnswersBy r (Err (Settings fault)) → statuses.Settings fault ≡ expected r
+settings_answer (Ok s) fault a = settings_by (fault_of s.pairs) fault a
+settings_answer (Err m) fault a = absurd cc
 
 -- the status of settings that are shown, and of refused ones
 
@@ -132,7 +123,7 @@ line_timed (Err m) n h = ap (λ (x : ℕ). statuses.BadLine x) h
 -- what an answer says of the status
 
 ok_expected : (c : Command) (input text : List ℕ) → Answers c input (Ok text) → Expected c input statuses.Ok
-ok_expected DrillCommand input text a = sym (ok_answer (drill_of input) text a)
+ok_expected DrillCommand input text a = ok_answer (schedule_of input) text a
 ok_expected Audit input text a = (a.0, a.1)
 ok_expected SettingsCommand input text a = ok_shown (json_settings input) text a
 ok_expected Timers input text a = ok_timed (lines_from 1 (lines_of input)) text a
@@ -140,7 +131,7 @@ ok_expected Dump input text a = (a.0, a.1)
 ok_expected Restore input text a = (text, a)
 
 line_expected : (c : Command) (input : List ℕ) (n : ℕ) → Answers c input (Err (Line n)) → Expected c input (statuses.BadLine n)
-line_expected DrillCommand input n a = sym (line_answer (drill_of input) n a)
+line_expected DrillCommand input n a = line_answer (schedule_of input) n a
 line_expected Audit input n a = a
 line_expected SettingsCommand input n a = absurd (line_shown (json_settings input) n a)
 line_expected Timers input n a = line_timed (lines_from 1 (lines_of input)) n a
@@ -148,43 +139,35 @@ line_expected Dump input n a = a
 line_expected Restore input n a = a
 
 settings_expected : (c : Command) (input : List ℕ) (fault : SettingsFault) → Answers c input (Err (Settings fault)) → Expected c input (statuses.Settings fault)
-settings_expected DrillCommand input fault a = sym (settings_answer (drill_of input) fault a)
+settings_expected DrillCommand input fault a = settings_answer (schedule_of input) fault a
 settings_expected Audit input fault a = absurd a
 settings_expected SettingsCommand input fault a = settings_shown (json_settings input) fault a
 settings_expected Timers input fault a = absurd a
 settings_expected Dump input fault a = absurd a
 settings_expected Restore input fault a = absurd a
 
-place_by : (d : Drill) (o : Option SettingsFault) (at : ℕ) → played_or d o ≡ Err (Place at) → ⊥
-place_by d None at e = cc
-place_by d (Some fault) at e = cc
-
-place_answer : (r : Result Drill ℕ) (at : ℕ) → answered r ≡ Err (Place at) → ⊥
-place_answer (Ok d) at e = place_by d (drill_fault d.pairs) at e
-place_answer (Err n) at e = cc
+place_answer : (r : Result Schedule ℕ) (at : ℕ) → AnswersBy r (Err (Place at)) → ⊥
+place_answer (Ok s) at a = a
+place_answer (Err n) at a = cc
 
 place_expected : (c : Command) (input : List ℕ) (at : ℕ) → Answers c input (Err (Place at)) → Expected c input (statuses.No at)
-place_expected DrillCommand input at a = absurd (place_answer (drill_of input) at a)
+place_expected DrillCommand input at a = absurd (place_answer (schedule_of input) at a)
 place_expected Audit input at a = a
 place_expected SettingsCommand input at a = absurd (place_shown (json_settings input) at a)
 place_expected Timers input at a = absurd a
 place_expected Dump input at a = a
 place_expected Restore input at a = absurd a
 
-unfit_by : (d : Drill) (o : Option SettingsFault) (n : ℕ) (name : List ℕ) → played_or d o ≡ Err (Unfit n name) → ⊥
-unfit_by d None n name e = cc
-unfit_by d (Some fault) n name e = cc
-
-unfit_answer : (r : Result Drill ℕ) (n : ℕ) (name : List ℕ) → answered r ≡ Err (Unfit n name) → ⊥
-unfit_answer (Ok d) n name e = unfit_by d (drill_fault d.pairs) n name e
-unfit_answer (Err m) n name e = cc
+unfit_answer : (r : Result Schedule ℕ) (n : ℕ) (name : List ℕ) → AnswersBy r (Err (Unfit n name)) → ⊥
+unfit_answer (Ok s) n name a = a
+unfit_answer (Err m) n name a = cc
 
 unfit_shown : (r : Result Values SettingsFault) (n : ℕ) (name : List ℕ) → Err (Unfit n name) ≡ shown r → ⊥
 unfit_shown (Ok v) n name e = cc
 unfit_shown (Err fault) n name e = cc
 
 unfit_expected : (c : Command) (input : List ℕ) (n : ℕ) (name : List ℕ) → Answers c input (Err (Unfit n name)) → Expected c input (statuses.Unfit n name)
-unfit_expected DrillCommand input n name a = absurd (unfit_answer (drill_of input) n name a)
+unfit_expected DrillCommand input n name a = absurd (unfit_answer (schedule_of input) n name a)
 unfit_expected Audit input n name a = absurd a
 unfit_expected SettingsCommand input n name a = absurd (unfit_shown (json_settings input) n name a)
 unfit_expected Timers input n name a = absurd a
@@ -219,12 +202,6 @@ complete words s k statuses.WriteFault d c is no_read no_write input e fits = ab
 complete words s k statuses.OutOfMemory d c is no_read no_write input e fits = inr refl
 
 -- ---- refusals
-
--- the refusal of pairs that isn't for want of memory is their fault
-pub not_memory : (o : Option SettingsFault) (fault : SettingsFault) → IsRefusal o fault → is_memory fault ≡ false → o ≡ Some fault
-not_memory None fault e known = absurd (true≢false (sym (ap is_memory e) ∙ known))
-not_memory (Some g) fault (inl e) known = ap Some (sym e)
-not_memory (Some g) fault (inr e) known = absurd (true≢false (sym (ap is_memory e) ∙ known))
 
 -- the status and the text of a refused input are right
 pub refused_due : (c : Command) (s : FromSource) (refusal : Refusal) (status : Status) (text : List ℕ) → IsAnswered c s (Err refusal) → status ≡ refusal_status refusal → text ≡ refusal_text refusal

@@ -17,7 +17,7 @@ use Rattle.sw_settings.specs.declared.values.Values.{Values}
 use Rattle.sw_settings.specs.declared.faults.SettingsFault.{SettingsFault}
 use Rattle.sw_settings_json.specs.Json.{json_settings}
 use Rattle.sw_settings_print.specs.Print.{settings_text}
-use Rattle.sw_play.specs.Run.{answer_of}
+use Rattle.sw_play.specs.Answers.{Answers as AnswersDrill}
 use Rattle.sw_timers_text.specs.Prints.{IsTimedText}
 
 -- a trace is answered by its verdict, and refused for its first line out of the grammar or for its least bad place
@@ -63,7 +63,7 @@ AnswersRestore input (Err (Unfit n name)) = IsRestored input (Err (unfits.Unfit 
 
 -- what is written for an input under a command, or why it is refused
 abbrev pub Answers : Command → List ℕ → Result (List ℕ) Refusal → Type 0
-Answers Drill input r = answer_of input ≡ r
+Answers Drill input r = AnswersDrill input r
 Answers Audit input r = AnswersTrace input r
 Answers SettingsCommand input r = r ≡ settings_answer input
 Answers Timers input r = AnswersTimers input r

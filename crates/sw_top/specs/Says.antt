@@ -17,16 +17,16 @@ use Rattle.sw_top.specs.Words.{command_of}
 use Rattle.sw_top.specs.Answering.{Answers}
 use Rattle.sw_answer.specs.declared.refusal.Refusal.{Refusal}
 use Rattle.sw_answer.specs.Refusals.{line_text, settings_text, unfit_text}
-use Rattle.sw_play.specs.Faults.{drill_fault}
+use Rattle.sw_settings.specs.Faults.{fault_of}
 use Rattle.sw_answer.specs.declared.refusal.Refusal.TheVariants.{Line, Settings, Place, Unfit}
 use Rattle.sw_settings.specs.declared.faults.SettingsFault.{SettingsFault}
 use Rattle.sw_settings.specs.declared.values.Values.{Values}
 use Rattle.sw_settings_json.specs.Json.{json_settings}
-use Rattle.sw_drill.specs.declared.schedule.Drill.{Drill}
+use Rattle.sw_schedule.specs.declared.schedule.Schedule.{Schedule}
 use Rattle.sw_text.specs.Parts.{lines_of}
 use Rattle.sw_timers_text.specs.declared.line.Line.{Line as TimerLine}
 use Rattle.sw_timers_text.specs.Grammar.{lines_from}
-use Rattle.sw_drill.specs.Draft.{drill_of}
+use Rattle.sw_schedule.specs.Draft.{schedule_of}
 use Rattle.sw_answer.specs.declared.status.Status.{Status}
 use Rattle.sw_answer.specs.declared.status.Status.TheVariants as statuses
 use Rattle.sw_top.specs.declared.command.Outcome.{Outcome}
@@ -146,9 +146,9 @@ abbrev pub expected_by : Option SettingsFault → Status
 expected_by None = statuses.Ok
 expected_by (Some fault) = statuses.Settings fault
 
--- the status of a text that was read whole
-abbrev pub expected : Result Drill ℕ → Status
-expected (Ok d) = expected_by (drill_fault d.pairs)
+-- the status of the text of a drill that was read whole
+abbrev pub expected : Result Schedule ℕ → Status
+expected (Ok s) = expected_by (fault_of s.pairs)
 expected (Err n) = statuses.BadLine n
 
 -- the status of a trace that was read whole: that of its verdict, or of its first line out of the grammar
@@ -203,7 +203,7 @@ Restored input statuses.OutOfMemory = ⊥
 
 -- the status that the input alone asks for
 abbrev pub Expected : Command → List ℕ → Status → Type 0
-Expected DrillCommand input status = status ≡ expected (drill_of input)
+Expected DrillCommand input status = status ≡ expected (schedule_of input)
 Expected Audit input status = Judged input status
 Expected SettingsCommand input status = status ≡ settings_status (json_settings input)
 Expected Timers input status = status ≡ timers_status (lines_from 1 (lines_of input))

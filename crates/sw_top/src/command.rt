@@ -118,7 +118,7 @@ pub fn tool<S: Source, K: Sink>(
     // The status has its cause, and what it says was written.
     ensures says { Said words.now (record { left = S.left source.old; left_new = S.left source.new; faults = S.faults source.old; faults_new = S.faults source.new; ended = S.ended source.new }) (record { taken = K.taken sink.old; taken_new = K.taken sink.new; faults = K.faults sink.old; faults_new = K.faults sink.new }) result }
 
-    // At Ok the record that a drill printed is right, and drained once its link is over.
+    // At Ok the record that a drill printed is right, and drained once all actors are finished.
     ensures right { PrintsRight words.now (record { left = S.left source.old; left_new = S.left source.new; faults = S.faults source.old; faults_new = S.faults source.new; ended = S.ended source.new }) (record { taken = K.taken sink.old; taken_new = K.taken sink.new; faults = K.faults sink.old; faults_new = K.faults sink.new }) result }
 
     // Without a fault the input alone decides.

@@ -1,16 +1,12 @@
 -- The record of code that stands for a core is the core's.
 use Rattle.std.proofs.Common.{◌≡◌, ℕ, ◌<◌, ◌≤◌, ◌+◌, ◌%◌, true, List, ◌++◌, length, map, refl, ap, ◌∙◌, sym, subst, arith, Option, Some, None, slice_get}
 use Rattle.sw_lists.specs.Lists.{collect}
-use Rattle.sw_step.specs.declared.actor.ActorId.{ActorId}
 use Rattle.sw_step.specs.declared.actor.ActorId.TheVariants.{Reactor, Worker, Tasker}
-use Rattle.sw_data.specs.declared.ended.Ended.{Ended}
-use Rattle.sw_link.specs.declared.memory_link.MemoryLink.{MemoryLink}
 use Rattle.sw_conn.specs.declared.terms.Terms.{Terms as ConnTerms}
 use Rattle.sw_conn_fits.specs.Shown.{settings}
 use Rattle.sw_record.specs.Words.{Log}
 use Rattle.sw_record.specs.Terms.{Terms}
 use Rattle.sw_record.specs.declared.record.LinkRecord.{LinkRecord}
-use Rattle.sw_record.specs.declared.record.Record.{Record}
 use Rattle.sw_table_laws.specs.Table.{Shape}
 use Rattle.sw_past.specs.Routes.{crew}
 use native.Mathlib.Nat.{mod-lt}

@@ -1,6 +1,5 @@
 -- What is kept of reactors one by one.
 use Rattle.std.proofs.Common.{◌≡◌, ℕ, zero, suc, ◌+◌, ◌<◌, ◌%◌, List, [], ◌∷◌, ◌++◌, length, map, take, get_or, refl, ap, ◌∙◌, sym, subst, Option, Some, None, slice_get}
-use Rattle.sw_data.specs.declared.ended.Ended.{Ended}
 use Rattle.sw_link.specs.declared.memory_link.MemoryLink.{MemoryLink}
 use Rattle.sw_record.specs.declared.record.LinkRecord.{LinkRecord}
 use Rattle.sw_reactor.specs.declared.reactor.Reactor.{Reactor}

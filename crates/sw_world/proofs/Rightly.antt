@@ -1,10 +1,7 @@
 -- The record of code that steps lead to from code that was made is right.
 use Rattle.std.proofs.Common.{◌≡◌, ℕ, true, List, ap, subst, Some, slice_get, Result, Ok, Err}
 use Rattle.std.specs.Prelude.{IfOk}
-use Rattle.sw_step.specs.declared.actor.ActorId.{ActorId}
-use Rattle.sw_step.specs.declared.step.Step.{Step}
 use Rattle.sw_hand.specs.Ports.{Acting}
-use Rattle.sw_settings.specs.declared.values.Values.{Values}
 use Rattle.sw_record.specs.Terms.{Terms}
 use Rattle.sw_record.specs.Sessions.{accepted, SessionsRise}
 use Rattle.sw_record.specs.Right.{Right}
@@ -19,18 +16,15 @@ use Rattle.sw_world_laws.specs.Runs.{IsServer}
 use Rattle.sw_world_hands.specs.Hands.{Crews}
 use Rattle.sw_world_steps.specs.Server.{IsServed, server, AState}
 use Rattle.sw_world_crew.specs.declared.recorded.Recorded.{Recorded}
-use Rattle.sw_world_crew.specs.Recorded.{log_of, recorded_acts}
-use Rattle.sw_world_whole.specs.Whole.{Stands, RecordHolds}
+use Rattle.sw_world_crew.specs.Recorded.{log_of}
+use Rattle.sw_world_whole.specs.Whole.{Stands}
 use Rattle.sw_world_whole.proofs.Told.{record_holds, all_done}
 use Rattle.sw_world_state.specs.declared.state.State.{State}
 use Rattle.sw_world_state.specs.State.{parts_of, views}
 use Rattle.sw_world_goes.specs.Ready.{Ready}
 use Rattle.sw_world_make.specs.Terms.{terms_of, shape_of}
 use Rattle.sw_world_make.specs.Handlers.{crews_of}
-use Rattle.sw_world_make.specs.Made.{IsMade}
-use Rattle.sw_world.specs.Run.{Ran}
-use Rattle.sw_world.specs.Account.{record_of}
-use Rattle.sw_world.specs.Right.{AllFinished, IsRight, IsRightBehindRuns}
+use Rattle.sw_world.specs.Right.{IsRight, IsRightBehindRuns}
 use Rattle.sw_world.proofs.Running.{made_stands, ran_stands}
 use Rattle.sw_world.proofs.Accounts.{record_same}
 use Rattle.sw_world.proofs.Telling.{outside_told}

@@ -6,16 +6,15 @@ use Rattle.std.specs.Prelude.{if◌then◌else◌}
 use Rattle.sw_lists.specs.Lists.{collect}
 use Rattle.sw_lists.proofs.Lists.{eq_is}
 use Rattle.sw_step.specs.declared.actor.ActorId.TheVariants.{Reactor}
-use Rattle.sw_data.specs.declared.ended.Ended.{Ended}
 use Rattle.sw_link.specs.declared.memory_link.MemoryLink.{MemoryLink}
-use Rattle.sw_record.specs.Terms.{Terms, Outside, reactor_of, session_of}
+use Rattle.sw_record.specs.Terms.{Terms, reactor_of, session_of}
 use Rattle.sw_record.specs.declared.record.LinkRecord.{LinkRecord}
 use Rattle.sw_table_laws.specs.Table.{Shape}
-use Rattle.sw_past.specs.Claims.{Claim, Drew, Full, Spent}
+use Rattle.sw_past.specs.Claims.{Claim, Drew}
 use Rattle.sw_reactor_table.specs.Reactor.{Reactor as Table}
 use Rattle.sw_world_laws.specs.Shows.{Tells}
 use Rattle.sw_world_laws.specs.World.{Core}
-use Rattle.sw_world_laws.specs.Account.{is_session, link_in, untold, tells_by, end_told, fault_told, none_told, outside}
+use Rattle.sw_world_laws.specs.Account.{is_session, link_in, untold, tells_by, none_told, outside}
 use Rattle.sw_world_laws.proofs.Locals.{lt_test}
 use Rattle.sw_world_hands.specs.Hands.{Crews}
 use Rattle.sw_world_reactor_fits.specs.Plain.{memory_tells, EndTold, ReactorIs}
@@ -26,8 +25,8 @@ use Rattle.sw_world_places.specs.declared.arrived.Claimed.{Claimed}
 use Rattle.sw_world_places.specs.declared.arrived.Claimed.TheVariants as claims
 use Rattle.sw_world_reactors.specs.declared.owner.Owner.{Owner}
 use Rattle.sw_world_stands.proofs.Gets.{some_same}
-use Rattle.sw_world_stands.specs.Links.{claims_of, entry, done, wait, LinksStand}
-use Rattle.sw_world_steps.specs.Server.{IsServed, server, AState, of_reactor}
+use Rattle.sw_world_stands.specs.Links.{claims_of, entry, done, wait}
+use Rattle.sw_world_steps.specs.Server.{IsServed, server, AState}
 use Rattle.sw_world_crew.specs.declared.recorded.Recorded.{Recorded}
 use Rattle.sw_world_crew.specs.Recorded.{log_of}
 use Rattle.sw_world_whole.specs.Whole.{Stands}
@@ -35,7 +34,7 @@ use Rattle.sw_world_state.specs.declared.state.State.{State}
 use Rattle.sw_world_state.specs.State.{parts_of, views}
 use Rattle.sw_world_goes.specs.Ready.{Ready}
 use Rattle.sw_world_account.specs.Accounting.{found_or, record_by}
-use Rattle.sw_world.specs.Account.{links_at, link_of_code, record_of}
+use Rattle.sw_world.specs.Account.{links_at, link_of_code}
 use Rattle.sw_world.specs.Right.{IsTold, IsOutside}
 use Rattle.sw_world.proofs.Listing.{map_found, map_shown}
 

@@ -5,14 +5,14 @@ use Rattle.sw_lists.specs.Lists.{collect}
 use Rattle.sw_record.specs.Terms.{Terms}
 use Rattle.sw_record.specs.declared.record.LinkRecord.{LinkRecord}
 use Rattle.sw_record.specs.declared.record.LinkState.TheVariants.{Waiting}
-use Rattle.sw_past.specs.Claims.{Claim, Drew, Full, Spent}
+use Rattle.sw_past.specs.Claims.{Claim, Drew}
 use Rattle.sw_world_laws.specs.Account.{link_in, link_or, untouched, link_by, links_by, waits}
 use Rattle.sw_world_places.specs.Arrived.{Known}
 use Rattle.sw_world_places.specs.Links.{Arrivals}
 use Rattle.sw_world_places.specs.declared.arrived.Claimed.{Claimed}
 use Rattle.sw_world_places.specs.declared.arrived.Claimed.TheVariants as claims
-use Rattle.sw_world_stands.specs.Links.{claim_of, claims_of, entry, done, wait, LinksStand}
-use Rattle.sw_world_account.specs.Accounting.{found_or, session_link, record_by, record_of}
+use Rattle.sw_world_stands.specs.Links.{claims_of, entry, done, wait, LinksStand}
+use Rattle.sw_world_account.specs.Accounting.{found_or, record_by, record_of}
 
 -- the record of an entry
 abbrev entry_by : Terms → (ℕ → List LinkRecord) → ℕ → Option Claim → LinkRecord

@@ -2,7 +2,7 @@
 use Rattle.std.specs.Prelude.{◌≡◌, ℕ, zero, suc, ◌+◌, ◌<◌, ◌≤◌, Bool, true, false, List, [], ◌∷◌, ◌++◌, length}
 use Rattle.sw_lists.specs.Lists.{collect, Each}
 use Rattle.sw_step.specs.declared.actor.ActorId.{ActorId}
-use Rattle.sw_step.specs.declared.actor.ActorId.TheVariants.{Door, Reactor}
+use Rattle.sw_step.specs.declared.actor.ActorId.TheVariants.{Reactor}
 use Rattle.sw_record.specs.Terms.{Terms, reactor_of}
 use Rattle.sw_past.specs.Claims.{Claim, Drew, drew, drew_in}
 use Rattle.sw_past.specs.Messages.{Message, FreshMsg, NoMore}

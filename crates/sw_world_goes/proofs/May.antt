@@ -23,9 +23,9 @@ use Rattle.sw_reactor_table.specs.Reactor.{Reactor as Table}
 use Rattle.sw_world_reactor_fits.specs.Plain.{ReactorIs}
 use Rattle.sw_hand.specs.declared.hand.Hand.{Hand as CodeHand}
 use Rattle.sw_worker.specs.Generations.{Line}
-use Rattle.sw_world_places.specs.Ends.{Keeping, HasRoom, Puts}
+use Rattle.sw_world_places.specs.Ends.{Puts}
 use Rattle.sw_world_places.specs.Pipes.{Asking, Getting}
-use Rattle.sw_world_places.specs.Places.{Rows, AtRow, Calls, GoesBy as RowGoes, Goes as GoesRow, number_in}
+use Rattle.sw_world_places.specs.Places.{Rows, Calls, GoesBy as RowGoes, Goes as GoesRow}
 use Rattle.sw_world_places.specs.declared.place.Next.{Next}
 use Rattle.sw_world_places.specs.declared.place.Next.TheVariants as nexts
 use Rattle.sw_world_front.specs.declared.front.Front.{Front}
@@ -37,7 +37,6 @@ use Rattle.sw_world_reactors_fits.proofs.Changed.{room_keeps}
 use Rattle.sw_world_crew.specs.Hands.{MayTurn as HandMay}
 use Rattle.sw_world_crew_fits.proofs.Workers.{worker_may}
 use Rattle.sw_world_crew_fits.proofs.Taskers.{tasker_may}
-use Rattle.sw_world_stands.proofs.Rows.{is_there}
 use Rattle.sw_world_stands.proofs.Gets.{some_same, get_same}
 use Rattle.sw_world_asks.proofs.Due.{turn_due}
 use Rattle.sw_world_steps.specs.Server.{IsServed, server, AState}

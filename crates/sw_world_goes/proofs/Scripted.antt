@@ -13,18 +13,16 @@ use Rattle.sw_world_laws.proofs.Locals.{lt_test}
 use Rattle.sw_world_hands.specs.Hands.{Crews}
 use Rattle.sw_world_steps.specs.Server.{IsServed, AState}
 use Rattle.sw_reactor.specs.Line.{link_of, with_link}
-use Rattle.sw_reactor.specs.Ready.{IsReady}
 use Rattle.sw_reactor_table.specs.Reactor.{Reactor as Table}
 use Rattle.sw_world_reactor_fits.specs.Plain.{ReactorIs, TellsSame}
 use Rattle.sw_world_reactor_fits.proofs.Others.{script_is}
 use Rattle.sw_world_places.specs.Links.{kept, session_in}
 use Rattle.sw_world_front.specs.declared.front.Front.{Front}
 use Rattle.sw_world_reactors.specs.declared.owner.Owner.{Owner}
-use Rattle.sw_world_reactors.specs.Owners.{AtOwner, Adds, AddsTo, IsReadyOwner, number}
+use Rattle.sw_world_reactors.specs.Owners.{AddsTo, IsReadyOwner}
 use Rattle.sw_world_reactors_fits.proofs.Changed.{linked_ready}
 use Rattle.sw_world_stands.proofs.Gets.{some_same}
-use Rattle.sw_world_whole.specs.Parts.{Parts}
-use Rattle.sw_world_whole.specs.Whole.{Stands, IsStep}
+use Rattle.sw_world_whole.specs.Whole.{Stands}
 use Rattle.sw_world_whole.proofs.Others.{one_same}
 use Rattle.sw_world_whole.proofs.Coming.{scripts, script_given}
 use Rattle.sw_world_whole.proofs.Fed.{fed_same}

@@ -14,7 +14,7 @@ use Rattle.sw_table_laws.specs.Table.{Shape}
 use Rattle.sw_join.specs.Legal.{LegalFor}
 use Rattle.sw_past.specs.Messages.{Message}
 use Rattle.sw_world_laws.specs.Turns.{AskNothing}
-use Rattle.sw_world_laws.specs.World.{Pending, Core, Outcome, Goes as GoesStep, there, next, MayStep}
+use Rattle.sw_world_laws.specs.World.{Pending, Core, Outcome, Goes as GoesStep, there, next}
 use Rattle.sw_world_laws.proofs.Locals.{test_lt, lt_test}
 use Rattle.sw_world_fits.specs.Board.{number_of}
 use Rattle.sw_hand.specs.Ports.{Acting}
@@ -25,8 +25,6 @@ use Rattle.sw_world_hands.specs.Hands.{Crews}
 use Rattle.sw_world_hand_fits.specs.Hands.{Numbers, Tells}
 use Rattle.sw_reactor_fits.specs.Told.{BringsNew}
 use Rattle.sw_world_reactor_fits.specs.Plain.{memory_tells}
-use Rattle.sw_world_places.specs.Ends.{HasRoom}
-use Rattle.sw_world_places.specs.Links.{TakesAhead}
 use Rattle.sw_world_places.specs.Pipes.{Sent, Asking, Getting}
 use Rattle.sw_world_places.specs.Places.{Rows, AtRow, Goes as GoesRow, number_in}
 use Rattle.sw_world_places.specs.declared.place.Next.TheVariants.{Asked}
@@ -40,19 +38,18 @@ use Rattle.sw_world_stands.specs.Rows.{RowsStand}
 use Rattle.sw_world_stands.proofs.Gets.{some_same, get_same}
 use Rattle.sw_world_asks.proofs.Due.{turn_due, other_steps}
 use Rattle.sw_world_steps.specs.Server.{IsServed, server, AState}
-use Rattle.sw_world_whole.specs.Parts.{Parts, Views}
-use Rattle.sw_world_whole.specs.Whole.{Stands, GoesOn, FrontSame, IsStep, IsLostStep}
-use Rattle.sw_world_whole.specs.Scripts.{fed, message_fed, got_fed}
+use Rattle.sw_world_whole.specs.Whole.{Stands, FrontSame}
+use Rattle.sw_world_whole.specs.Scripts.{got_fed}
 use Rattle.sw_world_whole.proofs.Calls.{calls}
 use Rattle.sw_world_whole.proofs.Fed.{got_same, got_new, reactor_stays, front_stays}
 use Rattle.sw_world_whole.proofs.Going.{door_turns, reactor_turns, worker_turns, tasker_turns}
 use Rattle.sw_world_state.specs.declared.state.State.{State}
 use Rattle.sw_world_state.specs.State.{parts_of, views}
 use Rattle.sw_world_state.specs.Feeding.{FeedsMessage, FeedsTaken}
-use Rattle.sw_world_state.specs.Turning.{MakesRoom, ReactorTurns, TurnsAs}
-use Rattle.sw_world_state.specs.Steps.{on_turn, Turns, GoesBy, GoesFrom}
+use Rattle.sw_world_state.specs.Turning.{TurnsAs}
+use Rattle.sw_world_state.specs.Steps.{on_turn, GoesBy, GoesFrom}
 use Rattle.sw_world_goes.specs.Ready.{Ready, Goes}
-use Rattle.sw_world_goes.proofs.Lists.{set_again, get_less, get_changed}
+use Rattle.sw_world_goes.proofs.Lists.{set_again, get_changed}
 
 -- an actor's number, if it is there
 pub number_by : (t : Terms) (r : Rows) (nexts : ActorId → Pending) (pipes : ActorId → List Message) → RowsStand t r nexts pipes → (y : ActorId) → number_in r y ≡ (if there t y then Some (number_of t y) else None)

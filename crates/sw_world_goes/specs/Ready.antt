@@ -8,7 +8,7 @@ use Rattle.sw_world_hands.specs.Hands.{Crews}
 use Rattle.sw_world_steps.specs.Server.{IsServed, AState}
 use Rattle.sw_world_reactors.specs.declared.owner.Owner.{Owner}
 use Rattle.sw_world_reactors.specs.Owners.{IsReadyOwner}
-use Rattle.sw_world_whole.specs.Whole.{Stands, IsStep}
+use Rattle.sw_world_whole.specs.Whole.{IsStep}
 use Rattle.sw_world_state.specs.declared.state.State.{State}
 use Rattle.sw_world_state.specs.State.{parts_of, views}
 

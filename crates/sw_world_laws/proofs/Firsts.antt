@@ -2,7 +2,7 @@
 -- came, so once each reactor had one.
 use Rattle.std.proofs.Common.{◌≡◌, ◌⊎◌, ℕ, ◌+◌, ◌<◌, ◌≤◌, Bool, true, false, if◌then◌else◌, List, [], ◌∷◌, ◌++◌, length, refl, ap, ◌∙◌, sym, subst, append-nil, arith, inl, inr, zero, suc}
 use Rattle.sw_lists.specs.Lists.{collect, when, IsPrefix, Each, Has}
-use Rattle.sw_lists.proofs.Lists.{append_none, bool_cases, collect-append, each_left, each_right, prefix_collect}
+use Rattle.sw_lists.proofs.Lists.{append_none, bool_cases, collect-append, each_right, prefix_collect}
 use Rattle.sw_step.specs.declared.actor.ActorId.{ActorId}
 use Rattle.sw_step.specs.declared.actor.ActorId.TheVariants.{Door, Reactor, Worker, Tasker}
 use Rattle.sw_step.specs.Actors.{is}
@@ -11,7 +11,7 @@ use Rattle.sw_record.specs.Places.{Ran}
 use Rattle.sw_past.specs.Messages.{Message, FreshMsg, SendMsg, CloseMsg, ResetMsg, Bye, EventMsg, OverMsg, NoMore}
 use Rattle.sw_past.specs.Past.{Mail, bare, msg_of, of, with}
 use Rattle.sw_past.specs.Views.{fresh_in, no_more}
-use Rattle.sw_past.specs.Routes.{IsHand, IsFair, MayPush, ToWorker, crew}
+use Rattle.sw_past.specs.Routes.{IsHand, MayPush, ToWorker, crew}
 use Rattle.sw_join.specs.Modes.{AimOf, EndOf}
 use Rattle.sw_join.specs.Steps.{put}
 use Rattle.sw_join.proofs.Routes.{is_refl, is_same}
@@ -24,9 +24,9 @@ use Rattle.sw_world_ports.proofs.Haves.{each_has}
 use Rattle.sw_world_laws.specs.Shows.{ComeFirst, EndsCame, HasWord, Shows}
 use Rattle.sw_world_laws.specs.Actors.{Actors}
 use Rattle.sw_world_laws.specs.World.{Core, there}
-use Rattle.sw_world_laws.specs.History.{History, diary_of, past_of}
+use Rattle.sw_world_laws.specs.History.{History, past_of}
 use Rattle.sw_world_laws.specs.Law.{DoorsFirst, Holds}
-use Rattle.sw_world_laws.proofs.Locals.{locals, joint, fair_sent, shown, door_shown, lt_test, there_hand, words_found, not_there}
+use Rattle.sw_world_laws.proofs.Locals.{locals, joint, fair_sent, shown, door_shown, there_hand, words_found, not_there}
 use Rattle.sw_world_laws.proofs.Turns.{more_of}
 
 -- of lists

@@ -5,7 +5,6 @@ use Rattle.sw_lists.proofs.Lists.{length_append}
 use Rattle.sw_base.specs.declared.table.Value.{Value}
 use Rattle.sw_column.specs.declared.column.Column.{Column}
 use Rattle.sw_column.specs.Values.{HasKinds, blank}
-use Rattle.sw_step.specs.declared.actor.ActorId.TheVariants.{Worker}
 use Rattle.sw_settings.specs.declared.values.Values.{Values}
 use Rattle.sw_settings.specs.Columns.{columns_named}
 use Rattle.sw_record.specs.Words.{Log}

@@ -11,7 +11,6 @@ use Rattle.sw_tmodel.specs.Plain.{PlainTable}
 use Rattle.sw_world_crew.specs.declared.recorded.Recorded.{Recorded}
 use Rattle.sw_world_crew.specs.Recorded.{log_of}
 use Rattle.sw_hand.specs.declared.hand.Hand.{Hand as CodeHand}
-use Rattle.sw_world_crew.specs.declared.crew.Crew.{Crew}
 use Rattle.sw_worker.specs.Generations.{Line}
 use Rattle.sw_reactor_table.specs.Reactor.{started}
 use Rattle.sw_world_ports.specs.Ports.{new_ports}
@@ -30,8 +29,7 @@ use Rattle.sw_world_whole.specs.Parts.{Parts}
 use Rattle.sw_world_whole.specs.Whole.{ActorIsNew, IsNewCore}
 use Rattle.sw_world_make.specs.Terms.{terms_of, shape_of}
 use Rattle.sw_world_make.specs.Handlers.{crews_of, AreWorkers, AreTaskers}
-use Rattle.sw_world_state.specs.declared.state.State.{State}
-use Rattle.sw_world_state.specs.State.{parts_of, views}
+use Rattle.sw_world_state.specs.State.{views}
 use Rattle.sw_world_goes.specs.Ready.{Ready}
 use Rattle.sw_world_make.specs.Made.{new_board}
 

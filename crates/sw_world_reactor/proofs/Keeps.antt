@@ -6,7 +6,6 @@ use Rattle.sw_lists.proofs.Lists.{collect-append, length_append, each_left, each
 use Rattle.sw_data.specs.declared.messages.Got.{Got as TableGot}
 use Rattle.sw_data.specs.declared.messages.Got.TheVariants as gots
 use Rattle.sw_step.specs.declared.actor.ActorId.{ActorId}
-use Rattle.sw_step.specs.declared.actor.ActorId.TheVariants.{Worker}
 use Rattle.sw_record.specs.Words.{PacketsCount, EndedCount}
 use Rattle.sw_record.specs.Terms.{Terms}
 use Rattle.sw_past.specs.Messages.{Message}

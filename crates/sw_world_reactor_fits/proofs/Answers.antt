@@ -3,7 +3,6 @@ use Rattle.std.proofs.Common.{◌≡◌, ◌⊎◌, ℕ, ◌+◌, ◌<◌, ◌�
 use Rattle.std.proofs.lemmas.Bool.Decides.{nat_tests}
 use Rattle.sw_data.specs.declared.ended.Ended.{Ended}
 use Rattle.sw_lists.specs.Lists.{collect, Each}
-use Rattle.sw_lists.proofs.Lists.{append_none}
 use Rattle.sw_link.specs.declared.memory_link.MemoryLink.{MemoryLink}
 use Rattle.sw_port_board.specs.Board.{FindsIdle, found_busy}
 use Rattle.sw_port_board.specs.declared.board.BoardStep.TheVariants.{Found, SawStop, Added}
@@ -21,14 +20,14 @@ use Rattle.sw_record.specs.Words.{Counter}
 use Rattle.sw_record.specs.Terms.{Terms}
 use Rattle.sw_record.specs.Places.{Ran}
 use Rattle.sw_world_ports.specs.Calls.{Seen, Did, Accepts, NoLink, NetOver, Looks, Binds, Frees, Marks, Idles, Stops, SeesStop, Adds, Sums, Tables, TableRefuses}
-use Rattle.sw_world_ports.specs.Made.{free_in, first_of, firsts, same_counter}
+use Rattle.sw_world_ports.specs.Made.{free_in, firsts, same_counter}
 use Rattle.sw_world_ports.specs.Ports.{Ports, set, added, Answers, AllAnswer, ported, all_ported}
 use Rattle.sw_world_fits.specs.Book.{BookStands}
 use Rattle.sw_world_fits.specs.Book as book
 use Rattle.sw_world_fits.specs.Board.{number_of, BoardStands}
 use Rattle.sw_world_fits.proofs.Book.{look_fits, release_fits}
 use Rattle.sw_world_fits.proofs.Board.{stopped_fits, add_fits, idle_fits}
-use Rattle.sw_reactor_fits.specs.Ports.{seen_of, DidGo, DidsGo}
+use Rattle.sw_reactor_fits.specs.Ports.{seen_of, DidsGo}
 use Rattle.sw_world_reactor_fits.specs.Plain.{plain_ports}
 use Rattle.sw_world_reactor_fits.proofs.Links.{goes_turn}
 

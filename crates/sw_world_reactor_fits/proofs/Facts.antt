@@ -15,7 +15,7 @@ use Rattle.sw_past.specs.Past.{Mail, bare}
 use Rattle.sw_past.specs.Views.{fresh_in}
 use Rattle.sw_past.specs.Routes.{IsFair}
 use Rattle.sw_join.specs.Modes.{AimOf, EndOf}
-use Rattle.sw_world_ports.specs.Calls.{Did, Looks, Idles, Frees, SeesStop, Adds}
+use Rattle.sw_world_ports.specs.Calls.{Did}
 use Rattle.sw_world_ports.specs.Made.{free_in, firsts}
 use Rattle.sw_world_ports.proofs.Haves.{has_left, has_right}
 use Rattle.sw_world_laws.specs.Turns.{Diary}

@@ -2,11 +2,11 @@
 use Rattle.std.proofs.Common.{◌≡◌, ℕ, ◌+◌, ◌<◌, ◌≤◌, min, nat_lt, Bool, true, false, List, [], ◌∷◌, ◌++◌, Option, Some, None, refl, ap, ◌∙◌, sym, subst, arith}
 use Rattle.std.proofs.lemmas.Bool.Decides.{nat_tests}
 use Rattle.sw_data.specs.declared.ended.Ended.{Ended}
-use Rattle.sw_causes.specs.Causes.{most, Rises}
+use Rattle.sw_causes.specs.Causes.{Rises}
 use Rattle.sw_link.specs.declared.memory_link.MemoryLink.{MemoryLink}
 use Rattle.sw_link.specs.declared.link.LinkWrite.{LinkWrite}
 use Rattle.sw_link.specs.declared.link.LinkWrite.TheVariants as writes
-use Rattle.sw_link.specs.Reads.{Read, GotPiece, ReadNotYet, ReadEnd, ReadFailed, CountsRead, CountsWrite}
+use Rattle.sw_link.specs.Reads.{Read, GotPiece, ReadNotYet, ReadEnd, ReadFailed, CountsWrite}
 use Rattle.sw_link.specs.Told.{Told, read_tells, write_tells}
 use Rattle.sw_link.specs.Memory.{IsReadBy, IsWriteBy, memory_read, memory_write, told_of, faults_of}
 use Rattle.sw_link.specs.MemoryTells.{memory_reads_tell, memory_reads_count, memory_writes_tell, memory_writes_count}

@@ -1,16 +1,14 @@
 -- A reactor before its first turn, a link whose script goes on, and the record of a reactor's links.
 use Rattle.std.proofs.Common.{◌≡◌, ◌⊎◌, ℕ, ◌<◌, ◌%◌, ◌==◌, nat_lt, Bool, true, false, if◌then◌else◌, List, [], ◌∷◌, ◌++◌, map, Option, Some, None, refl, ap, ◌∙◌, sym, subst, inl, inr, zero, suc, mod-eq_of_lt}
 use Rattle.sw_data.specs.declared.ended.Ended.{Ended}
-use Rattle.sw_lists.specs.Lists.{Has}
-use Rattle.sw_lists.proofs.Lists.{eq_is, bool_cases}
+use Rattle.sw_lists.proofs.Lists.{eq_is}
 use Rattle.sw_link.specs.declared.memory_link.MemoryLink.{MemoryLink}
-use Rattle.sw_link.specs.Memory.{faults_of}
 use Rattle.sw_conn.specs.declared.conn.Conn.{Conn}
 use Rattle.sw_conn.specs.Conn.{account}
 use Rattle.sw_conn_fits.specs.Shown.{settings, shown}
 use Rattle.sw_record.specs.declared.record.LinkRecord.{LinkRecord}
 use Rattle.sw_record.specs.declared.record.LinkState.{LinkState}
-use Rattle.sw_record.specs.declared.record.LinkState.TheVariants.{Waiting, Live, Over}
+use Rattle.sw_record.specs.declared.record.LinkState.TheVariants.{Live, Over}
 use Rattle.sw_record.specs.Words.{Cause, PeerEnd, ServerClose, ResetCause, ReadFault, WriteFault, TooLong, BadLength, Overflow, Stop, NoSlot, NumbersSpent, NoMemory}
 use Rattle.sw_record.specs.Terms.{Terms}
 use Rattle.sw_reactor_table.specs.Conn.{Conn as Row, live_link}

@@ -6,14 +6,9 @@ use Rattle.sw_data.specs.declared.messages.Got.TheVariants as gots
 use Rattle.sw_data.specs.declared.messages.Msg.{Msg}
 use Rattle.sw_frame.specs.Cut.{IsFit}
 use Rattle.sw_lists.specs.Lists.{collect, Each, Has}
-use Rattle.sw_lists.specs.Numbers.{Rises}
 use Rattle.sw_link.specs.declared.memory_link.MemoryLink.{MemoryLink}
 use Rattle.sw_port_board.specs.PlainBoard.{PlainWords}
 use Rattle.sw_port_book.specs.Plain.{Words}
-use Rattle.sw_step.specs.declared.actor.ActorId.{ActorId}
-use Rattle.sw_step.specs.declared.actor.ActorId.TheVariants.{Reactor as AReactor}
-use Rattle.sw_record.specs.Counts.{greatest}
-use Rattle.sw_record.specs.Words.{Counter, Event}
 use Rattle.sw_record.specs.declared.record.LinkRecord.{LinkRecord}
 use Rattle.sw_record.specs.Terms.{Terms}
 use Rattle.sw_record.specs.Places.{Ran}
@@ -23,13 +18,9 @@ use Rattle.sw_past.specs.Views.{fresh_in}
 use Rattle.sw_past.specs.Routes.{IsFair}
 use Rattle.sw_world_ports.specs.Made.{free_in, firsts}
 use Rattle.sw_world_ports.specs.Ports.{Ports}
-use Rattle.sw_world_laws.specs.Turns.{Got, Diary, no_diary}
+use Rattle.sw_world_laws.specs.Turns.{Diary}
 use Rattle.sw_world_laws.specs.Shows.{HasWord}
-use Rattle.sw_world_laws.specs.Actors.{Feed}
-use Rattle.sw_world_fits.specs.Book.{BookStands}
-use Rattle.sw_world_fits.specs.Board.{number_of, BoardStands}
-use Rattle.sw_reactor_table.specs.Conn.{Conn as Row}
-use Rattle.sw_reactor_table.specs.Reactor.{Reactor as Table, Ask as TableAsk, Take, Push, Nothing, Rest, Finished, all, settled, turn, started}
+use Rattle.sw_reactor_table.specs.Reactor.{Reactor as Table, Ask as TableAsk, Take, Push, Nothing, Rest, Finished, settled, turn, started}
 use Rattle.sw_reactor_laws.specs.Bounds.{InBounds}
 use Rattle.sw_reactor.specs.declared.reactor.Reactor.{Reactor}
 use Rattle.sw_reactor.specs.Turn.{Asks}
@@ -41,12 +32,12 @@ use Rattle.sw_reactor_fits.specs.Ports.{EndsGo, AreSound, IsTheTables}
 use Rattle.sw_reactor_fits.proofs.Turning.{turns_is}
 use Rattle.sw_reactor_fits.proofs.Running.{turn_of_run}
 use Rattle.sw_world_reactor.specs.Calls.{TurnCalls}
-use Rattle.sw_world_reactor.specs.Reactors.{table_got, world_ask, ReactorTurn, RTurn, AllTold, Behind, QuietBy}
-use Rattle.sw_world_reactor_fits.specs.Plain.{itself, memory_tells, plain_ports, got_of, ask_of, AreEnds, ReactorIs}
+use Rattle.sw_world_reactor.specs.Reactors.{table_got, world_ask, AllTold, Behind, QuietBy}
+use Rattle.sw_world_reactor_fits.specs.Plain.{itself, memory_tells, plain_ports, got_of, ask_of, AreEnds}
 use Rattle.sw_world_reactor_fits.specs.Turns.{Before, TurnIs}
 use Rattle.sw_world_reactor_fits.proofs.Links.{memory_does, plain_sound}
 use Rattle.sw_world_reactor_fits.proofs.Answers.{Answered, dids_answer}
-use Rattle.sw_world_reactor_fits.proofs.Facts.{Lists, settled_lists, few_conns, Served, behind_served, turn_named, turn_frees}
+use Rattle.sw_world_reactor_fits.proofs.Facts.{settled_lists, few_conns, Served, behind_served, turn_named, turn_frees}
 
 -- the words for what a turn begins with
 got_same : (got : CodeGot (Msg MemoryLink ℕ)) → code.got_of itself got ≡ table_got (got_of got)

@@ -9,7 +9,6 @@ use Rattle.sw_port_board.specs.Board.{members}
 use Rattle.sw_port_board.specs.PlainBoard.{PlainWords, PlainGoes}
 use Rattle.sw_port_board.specs.declared.crew.Crew.TheVariants.{Workers}
 use Rattle.sw_port_book.specs.Plain.{Words, Stands, word_of, with_word, free}
-use Rattle.sw_reactor.specs.declared.reactor.Reactor.{Reactor}
 use Rattle.sw_reactor.specs.Line.{link_of, with_link}
 use Rattle.sw_reactor.specs.Reactor.{IsStarted}
 use Rattle.sw_reactor.specs.Ready.{IsReady, AreApart, with_brought}

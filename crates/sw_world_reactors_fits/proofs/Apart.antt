@@ -1,6 +1,6 @@
 -- The sessions of a reactor's connections, with the one that comes, stand in their words and differ.
 use Rattle.std.proofs.Common.{◌≡◌, ◌≢◌, ℕ, ◌<◌, ◌≤◌, ◌%◌, ◌^◌, Bool, true, false, List, [], ◌∷◌, ◌++◌, length, slice_get, Option, Some, None, refl, ap, ◌∙◌, sym, subst, arith, zero, suc, map, mod-lt}
-use Rattle.sw_lists.specs.Lists.{collect, Each, Has}
+use Rattle.sw_lists.specs.Lists.{collect, Has}
 use Rattle.sw_lists.specs.Numbers.{Distinct}
 use Rattle.sw_lists.proofs.Lists.{each_left, perm_has}
 use Rattle.sw_data.specs.declared.messages.Got.{Got as CodeGot, Got as TableGot}
@@ -31,7 +31,7 @@ use Rattle.sw_reactor_table.specs.Quiet.{session_in, session_over}
 use Rattle.sw_reactor_table.proofs.Everywhere.{settled_over}
 use Rattle.sw_reactor_fits.specs.Fits.{AreRows}
 use Rattle.sw_reactor_fits.specs.Fits as code
-use Rattle.sw_reactor.specs.Ready.{AreApart, tickets_of, brought, brought_by, with_brought}
+use Rattle.sw_reactor.specs.Ready.{AreApart, tickets_of, brought, with_brought}
 use Rattle.sw_world_reactor.specs.Reactors.{AllTold, Behind, QuietBy}
 use Rattle.sw_world_reactor_fits.specs.Plain.{itself, memory_tells, got_of}
 use Rattle.sw_world_reactor_fits.specs.Turns.{Before}

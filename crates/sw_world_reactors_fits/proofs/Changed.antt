@@ -15,12 +15,12 @@ use Rattle.sw_reactor_table.specs.Reactor.{Reactor as Table, started}
 use Rattle.sw_reactor.proofs.Slots.{get_set_same, get_set_other}
 use Rattle.sw_reactor.specs.declared.reactor.Reactor.{Reactor}
 use Rattle.sw_reactor.specs.Line.{link_of, linked, with_link}
-use Rattle.sw_reactor.specs.Ready.{IsReady, tickets_of}
+use Rattle.sw_reactor.specs.Ready.{IsReady}
 use Rattle.sw_world_reactor_fits.specs.Plain.{ReactorIs, TellsSame}
 use Rattle.sw_world_reactor_fits.proofs.Others.{start_is, script_is}
 use Rattle.sw_world_places.specs.Ends.{Keeping, HasRoom, Puts}
 use Rattle.sw_world_reactors.specs.declared.owner.Owner.{Owner}
-use Rattle.sw_world_reactors.specs.Owners.{number, IsReadyOwner, IsNew, AreNew, AtOwner, AddsTo, Adds}
+use Rattle.sw_world_reactors.specs.Owners.{number, IsNew, AreNew, AtOwner, AddsTo, Adds}
 use Rattle.sw_world_reactors_fits.specs.Stand.{kept_of, OwnerStands, StandsAs, ReactorsStand}
 
 -- before their first turns

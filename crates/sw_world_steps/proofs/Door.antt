@@ -4,7 +4,6 @@ use Rattle.sw_step.specs.declared.actor.ActorId.TheVariants.{Door}
 use Rattle.sw_port_book.specs.Plain.{Words}
 use Rattle.sw_port_board.specs.PlainBoard.{PlainWords}
 use Rattle.sw_record.specs.Terms.{Terms}
-use Rattle.sw_record.specs.Places.{Ran}
 use Rattle.sw_table_laws.specs.Table.{Shape}
 use Rattle.sw_join.specs.Legal.{LegalFor}
 use Rattle.sw_tmodel.specs.Plain.{PlainTable}

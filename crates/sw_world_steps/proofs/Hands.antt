@@ -10,10 +10,10 @@ use Rattle.sw_past.specs.Routes.{IsHand as IsHandOf}
 use Rattle.sw_table_laws.specs.Table.{Shape}
 use Rattle.sw_join.specs.Legal.{LegalFor}
 use Rattle.sw_tmodel.specs.Plain.{PlainTable}
-use Rattle.sw_world_ports.specs.Calls.{Did, MayDo}
-use Rattle.sw_world_ports.specs.Ports.{AllAnswer, all_ported}
+use Rattle.sw_world_ports.specs.Calls.{MayDo}
+use Rattle.sw_world_ports.specs.Ports.{all_ported}
 use Rattle.sw_world_laws.specs.Turns.{Ask, Got}
-use Rattle.sw_world_laws.specs.World.{Core, handed, IsTurn}
+use Rattle.sw_world_laws.specs.World.{Core, handed}
 use Rattle.sw_world_laws.specs.History.{diary_of}
 use Rattle.sw_world_laws.specs.Law.{Law}
 use Rattle.sw_world_laws.proofs.Locals.{no_hand_door}
@@ -26,7 +26,7 @@ use Rattle.sw_hand_laws.specs.Kept.{GotFits}
 use Rattle.sw_hand_fits.specs.Matches.{gave_in, IsNumberedGot}
 use Rattle.sw_world_hands.specs.Hands.{HandState, Crews, HandHolds, HandTurn, HandFails, hand_got}
 use Rattle.sw_world_hand_fits.specs.Plain.{plain_rules, Stands}
-use Rattle.sw_world_hand_fits.specs.Hands.{world_got, world_asks, HandIs, Gone, Went, Numbered, Numbers}
+use Rattle.sw_world_hand_fits.specs.Hands.{world_got, HandIs, Gone, Went, Numbered, Numbers}
 use Rattle.sw_world_hand_fits.proofs.Goes.{hand_turn}
 use Rattle.sw_world_hand_fits.proofs.Numbers.{numbered_stage}
 use Rattle.sw_world_hand_fits.proofs.Workers.{goes_numbered}
@@ -38,7 +38,7 @@ use Rattle.sw_world_door.specs.Doors.{DoorState}
 use Rattle.sw_world_asks.specs.Due.{TurnIsDue}
 use Rattle.sw_world_steps.specs.Server.{IsServed, server, AState, of_hand}
 use Rattle.sw_world_steps.specs.Shared.{SharedStands}
-use Rattle.sw_world_steps.specs.Turns.{itself, went, failed, HandGoes, HandWent}
+use Rattle.sw_world_steps.specs.Turns.{itself, HandWent}
 use Rattle.sw_world_steps.proofs.Same.{got_hand, ask_hand, ask_other}
 use Rattle.sw_world_steps.proofs.Still.{still, front_still}
 use Rattle.sw_world_steps.proofs.Numbers.{numbered_got}

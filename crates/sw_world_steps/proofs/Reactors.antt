@@ -9,11 +9,9 @@ use Rattle.sw_port_board.specs.PlainBoard.{PlainWords}
 use Rattle.sw_record.specs.Terms.{Terms}
 use Rattle.sw_table_laws.specs.Table.{Shape}
 use Rattle.sw_join.specs.Legal.{LegalFor}
-use Rattle.sw_past.specs.Claims.{drew_in}
 use Rattle.sw_past.specs.Past.{bare}
 use Rattle.sw_past.specs.Views.{fresh_in}
 use Rattle.sw_tmodel.specs.Plain.{PlainTable}
-use Rattle.sw_world_ports.specs.Calls.{Did}
 use Rattle.sw_world_ports.specs.Made.{accept_in}
 use Rattle.sw_world_ports.specs.Ports.{all_ported}
 use Rattle.sw_world_ports.specs.Law.{drawn_by}

@@ -4,11 +4,9 @@ use Rattle.sw_lists.specs.Lists.{Each}
 use Rattle.sw_step.specs.declared.actor.ActorId.{ActorId}
 use Rattle.sw_step.specs.declared.actor.ActorId.TheVariants.{Door, Reactor}
 use Rattle.sw_record.specs.Terms.{Terms}
-use Rattle.sw_record.specs.Places.{Ran}
 use Rattle.sw_past.specs.Claims.{Claim}
 use Rattle.sw_world_ports.specs.Calls.{Did, Accepts, NoLink, NetOver, Looks, Binds, Frees, Marks, Idles, Stops, SeesStop, Adds, Sums, Tables, TableRefuses, MayDo}
 use Rattle.sw_world_ports.specs.Ports.{Ports, ported, all_ported}
-use Rattle.sw_world_fits.specs.Net.{NetStands}
 use Rattle.sw_world_laws.proofs.Locals.{no_hand_reactor}
 use Rattle.sw_world_front.specs.declared.front.Front.{Front}
 use Rattle.sw_world_stands.specs.Links.{LinksStand}

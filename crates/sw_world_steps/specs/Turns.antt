@@ -12,7 +12,7 @@ use Rattle.sw_join.specs.Legal.{LegalFor}
 use Rattle.sw_tmodel.specs.Plain.{PlainTable}
 use Rattle.sw_world_ports.specs.Calls.{Did}
 use Rattle.sw_world_ports.specs.Ports.{all_ported}
-use Rattle.sw_world_laws.specs.Turns.{Ask, AskNothing, Got}
+use Rattle.sw_world_laws.specs.Turns.{AskNothing}
 use Rattle.sw_world_laws.specs.World.{Core, Outcome, IsTurn}
 use Rattle.sw_world_hands.specs.Hands.{HandState, Crews}
 use Rattle.sw_hand.specs.declared.hand.Hand.{Hand as CodeHand}

@@ -1,5 +1,5 @@
 use Rattle.std.proofs.Common.{None, Some, refl}
-use Rattle.sw_bucket.proofs.Works.{writes_key, sets, set_done, puts_row, full_row, may_spare, may_not, put_pool, full_pool}
+use Rattle.sw_bucket.proofs.Works.{sets, set_done, puts_row, full_row, may_spare, may_not, put_pool, full_pool}
 use Rattle.sw_bucket.proofs.Done.{done_full}
 use Rattle.sw_bucket.proofs.doing.set_behind.Goals as goal
 

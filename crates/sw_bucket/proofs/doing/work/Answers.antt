@@ -1,7 +1,7 @@
 use Rattle.std.proofs.Common.{sym, subst}
 use Rattle.sw_bucket.specs.Turns.{IsTurn}
 use Rattle.sw_bucket.proofs.Done.{done_remove}
-use Rattle.sw_bucket.proofs.Works.{removes_row, writes_alone, numbers_alone}
+use Rattle.sw_bucket.proofs.Works.{writes_alone, numbers_alone}
 use Rattle.sw_bucket.proofs.doing.work.Goals as goal
 
 pub returns-in-Remove-clause-done : goal.returns-in-Remove-clause-done

@@ -1,7 +1,6 @@
 use Rattle.std.proofs.Common.{List, ap, sym, subst, ◌∙◌}
 use Rattle.sw_base.specs.declared.table.Value.{Value}
 use Rattle.sw_column.specs.Values.{IsRow}
-use Rattle.sw_row.specs.Packed.{Linked}
 use Rattle.sw_table_laws.proofs.RowLaws.{blank_row}
 use Rattle.sw_bucket.proofs.Places.{row_kinds}
 use Rattle.sw_bucket.proofs.writing.fill.Goals as goal

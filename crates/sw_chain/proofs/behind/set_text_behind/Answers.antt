@@ -3,7 +3,6 @@ use Rattle.std.specs.Prelude.{IfSome, slice_set, slice_get}
 use Rattle.sw_base.specs.declared.table.Value.{Value}
 use Rattle.sw_base.specs.declared.table.Value.TheVariants as values
 use Rattle.sw_row.specs.Layout.{column_size}
-use Rattle.sw_column.specs.declared.column.Column.{Column}
 use Rattle.sw_row.specs.Packed.{Packed, Linked, behind}
 use Rattle.sw_chain.specs.Rows.{with_value}
 use Rattle.sw_chain.specs.Parted.{onto}

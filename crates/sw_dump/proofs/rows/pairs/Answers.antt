@@ -1,6 +1,5 @@
 use Rattle.std.proofs.Common.{◌≡◌, ℕ, ◌+◌, List, length, drop, Some, sym, ap, ◌∙◌, arith}
 use Rattle.std.specs.Option.{option_copied}
-use Rattle.sw_column.specs.declared.column.Column.{Column}
 use Rattle.sw_dump.specs.Grammar.{fit_value}
 use Rattle.sw_dump.specs.Reading.{pairs_behind}
 use Rattle.sw_dump.proofs.RowSteps.{Pair, none_before, kept_of, pairs_next, pairs_bad, pairs_short, pairs_done, pairs_long}

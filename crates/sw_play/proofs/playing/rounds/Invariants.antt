@@ -1,7 +1,7 @@
-use Rattle.std.proofs.Common.{◌≡◌}
-use Rattle.sw_drill.specs.Steps.{rounds}
-use Rattle.sw_play.specs.Run.{played}
+use Rattle.sw_world_crew.specs.Recorded.{recorded_acts}
+use Rattle.sw_world.specs.Run.{Ran}
+use Rattle.sw_play.specs.Steps.{rounds}
 use Rattle.sw_play.proofs.playing.rounds.Given as goal
 
 abbrev pub invariant-loop : goal.invariant-loop
-invariant-loop l = l.world.state ≡ played (rounds l.counter) l.fn.world.state
+invariant-loop g l = Ran (recorded_acts g.H.Handler.acts) (recorded_acts g.T.Handler.acts) l.fn.world.state (rounds l.settings l.counter) l.world.state

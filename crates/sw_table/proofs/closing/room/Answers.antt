@@ -1,6 +1,5 @@
 use Rattle.std.proofs.Common.{◌≡◌, ap, ◌∙◌}
 use Rattle.std.specs.FinMap as fin
-use Rattle.sw_tmodel.specs.Plain.{PlainTable}
 use Rattle.sw_table_join.specs.Tables.{SharedNow}
 use Rattle.sw_table.specs.Closing.{plain_of}
 use Rattle.sw_table.proofs.closing.room.Goals as goal

@@ -1,12 +1,7 @@
 use Rattle.std.proofs.Common.{◌≡◌, ◌<◌, ◌≤◌, ℕ, List, None, Some, true, false, refl, ap, sym, subst, ◌∙◌}
 use Rattle.sw_base.specs.declared.table.CallFault.{CallFault}
-use Rattle.sw_table_laws.specs.Table.{shown}
-use Rattle.sw_table_laws.specs.Buckets.{bucket_step}
-use Rattle.sw_table_join.specs.Tables.{SharedNow, IsShared}
+use Rattle.sw_table_join.specs.Tables.{IsShared}
 use Rattle.sw_table_join.specs.Answers.{NotPlaced}
-use Rattle.sw_bucket.specs.Rows.{rows_by}
-use Rattle.sw_bucket.specs.Turns.{IsDone}
-use Rattle.sw_table.specs.Holding.{free}
 use Rattle.sw_table.proofs.Drawing.{drew_as, refused_as, room_as, counted, refused_free}
 use Rattle.sw_table.proofs.table.Table.count.Goals as goal
 

@@ -1,5 +1,5 @@
 use Rattle.std.proofs.Common.{◌≤◌, List, ℕ, length, ap, sym, subst, ◌∙◌}
-use Rattle.sw_rowlock.specs.History.{calls, others, draws_of}
+use Rattle.sw_rowlock.specs.History.{calls, draws_of}
 use Rattle.sw_table_join.specs.Tables.{SeatView}
 use Rattle.sw_table.proofs.Notes.{draws_noted, longer}
 use Rattle.sw_table.proofs.table.Table.learn.Goals as goal

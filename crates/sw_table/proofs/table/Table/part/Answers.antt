@@ -1,5 +1,5 @@
 use Rattle.std.proofs.Common.{◌≡◌, ◌<◌, List, None, refl, ap, sym, subst, ◌∙◌}
-use Rattle.sw_table_join.specs.Tables.{SharedNow, IsShared}
+use Rattle.sw_table_join.specs.Tables.{IsShared}
 use Rattle.sw_table.specs.Holding.{free}
 use Rattle.sw_table.proofs.Drawing.{left_as, free_taken}
 use Rattle.sw_table.proofs.Parting.{holds_part, part_as}

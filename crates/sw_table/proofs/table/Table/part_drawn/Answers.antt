@@ -1,5 +1,5 @@
 use Rattle.std.proofs.Common.{◌≡◌, ◌<◌, List, None, refl, ap, sym, subst, ◌∙◌}
-use Rattle.sw_table_join.specs.Tables.{SharedNow, IsShared}
+use Rattle.sw_table_join.specs.Tables.{IsShared}
 use Rattle.sw_base.specs.declared.table.Call.TheVariants.{Count}
 use Rattle.sw_table.specs.declared.part.PartFault.{PartFault}
 use Rattle.sw_table.specs.Holding.{free}

@@ -1,5 +1,5 @@
 use Rattle.std.proofs.Common.{◌≡◌, ◌<◌, List, None, refl, ap, sym, subst, ◌∙◌}
-use Rattle.sw_table_join.specs.Tables.{SharedNow, IsShared}
+use Rattle.sw_table_join.specs.Tables.{SharedNow}
 use Rattle.sw_row.specs.Packed.{Packed}
 use Rattle.sw_bucket.specs.Rows.{rows_by, IsBucket}
 use Rattle.sw_tmodel.specs.Dumps.{AreRowsOf}

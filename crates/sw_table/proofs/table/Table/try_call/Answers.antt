@@ -1,6 +1,4 @@
 use Rattle.std.proofs.Common.{◌≡◌, ◌<◌, ◌≤◌, ℕ, List, None, Some, true, false, refl, ap, sym, subst, ◌∙◌, rules}
-use Rattle.sw_table_join.specs.Tables.{SharedNow, SeatView, IsShared}
-use Rattle.sw_table.specs.Holding.{free}
 use Rattle.sw_table.proofs.Drawing.{ended_called}
 use Rattle.sw_table.proofs.table.Table.try_call.Goals as goal
 

@@ -1,8 +1,8 @@
 use Rattle.std.proofs.Common.{◌≡◌, ◌<◌, ◌≤◌, ◌∷◌, ℕ, List, None, Some, true, false, refl, ap, sym, subst, ◌∙◌, rules}
-use Rattle.sw_table_join.specs.Tables.{SharedNow, SeatView, IsShared}
+use Rattle.sw_table_join.specs.Tables.{SharedNow, IsShared}
 use Rattle.sw_table.specs.Holding.{free}
 use Rattle.sw_rowlock.specs.Seats.{pool_number}
-use Rattle.sw_table.proofs.Drawing.{pool_refused, holds_pool, same_ended}
+use Rattle.sw_table.proofs.Drawing.{pool_refused, same_ended}
 use Rattle.sw_table.proofs.table.Table.with_pool.Goals as goal
 
 pub returns-in-Err-clause-call : goal.returns-in-Err-clause-call

@@ -1,7 +1,0 @@
-use Rattle.std.proofs.Common.{◌≡◌, ◌++◌, drop}
-use Rattle.std.specs.Prelude.{string_bytes}
-use Rattle.sw_drill.specs.Print.{each_text, log_text}
-use Rattle.sw_drill.proofs.printing.put_logs.Given as goal
-
-abbrev pub invariant-loop-at : goal.invariant-loop-at
-invariant-loop-at l = string_bytes l.out ++ each_text log_text l.at (drop l.at l.logs) ≡ string_bytes l.fn.out ++ each_text log_text 0 l.logs

@@ -1,5 +1,0 @@
-use Rattle.sw_drill.proofs.GrammarLaw.{is_read}
-use Rattle.sw_drill.proofs.reading.reading_is_exact.Goals as goal
-
-pub returns : goal.returns
-returns c = is_read

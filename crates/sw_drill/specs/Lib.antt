@@ -1,5 +1,0 @@
-pub mod Fields
-pub mod Draft
-pub mod Grammar
-pub mod Steps
-pub mod Print

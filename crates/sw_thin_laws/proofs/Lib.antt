@@ -1,9 +1,0 @@
-pub mod Cuts
-pub mod JoinBytes
-pub mod JoinOrder
-pub mod Logs
-pub mod Messages
-pub mod ReactorKeeps
-pub mod ReactorShows
-pub mod Told
-pub mod WorkerKeeps

@@ -1,7 +1,0 @@
-mod Logs
-mod Orders
-mod Causes
-mod Sessions
-mod Bytes
-mod Ends
-mod Rightly
