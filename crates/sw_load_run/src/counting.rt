@@ -20,7 +20,7 @@ fn packets_in(handlers: &[Loading]) -> u64
 {
     handlers
         .iter()
-        .fold(0, |sum: u64, handler| sum.saturating_add(handler.packets))
+        .fold(0u64, |sum, handler| sum.saturating_add(handler.packets))
 }
 
 /// How many packets all workers' handlers were given.
@@ -67,7 +67,8 @@ fn fault_of(cause: Cause) -> u64
 fn faults_in(kept: &[(MemoryLink, Ended)]) -> u64
     ensures { result ≡ total (λ one. fault_of one.1.cause) kept.now }
 {
-    kept.iter().fold(0, |sum: u64, one| sum.saturating_add(fault_of(one.1.cause)))
+    kept.iter()
+        .fold(0u64, |sum, one| sum.saturating_add(fault_of(one.1.cause)))
 }
 
 /// How many of all links did.
