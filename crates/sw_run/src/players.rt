@@ -136,7 +136,6 @@ fn line_up<P: Drop>(
 }
 
 /// All players, in the order door, reactors, workers, task workers.
-#[tactic(auto, using(crate::proofs::LiningUp::lined_up))]
 pub(crate) fn assemble<
     N: Net + Drop,
     J: Naming,
