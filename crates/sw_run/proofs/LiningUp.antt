@@ -1,14 +1,38 @@
 -- Players lined up: the door, reactors, workers, task workers.
-use Rattle.std.proofs.Common.{◌≡◌, List, [], ◌∷◌, ◌++◌, refl, sym, ap, append-nil, ◌∙◌, map, subst}
+use Rattle.std.proofs.Common.{◌≡◌, List, [], ◌∷◌, ◌++◌, refl, sym, ap, append_assoc, append-nil, ◌∙◌, map, subst}
 use Rattle.std.proofs.lemmas.List.{map-append}
+use Rattle.std.specs.Global.{Vec}
+use Rattle.sw_players.specs.declared.actor.Actor.{Actor}
+use Rattle.sw_players.specs.Actors.{actor_made}
 use Rattle.sw_players.specs.Made.{Made, of_door, of_reactor, of_worker, of_tasker}
 use Rattle.sw_run.specs.LinedUp.{AreReactors, IsLineUp}
+use Rattle.sw_sweep.proofs.Taking.{mapped_more, mapped_all}
 use Rattle.sw_sweep.specs.Told.{nets_of, workers_of, taskers_of}
 
--- one more on both sides
-pub mapped_more : {X Y Z : Type 0} (f : X → Z) (h : Y → Z) (xs xs' : List X) (x : X) (ys : List Y) (y : Y) → xs' ≡ xs ++ x ∷ [] → f x ≡ h y → map f xs ≡ map h ys → map f xs' ≡ map h (ys ++ y ∷ [])
-mapped_more f h xs xs' x ys y e same was =
-    ap (map f) e ∙ map-append f xs (x ∷ []) ∙ ap (λ l. l ++ f x ∷ []) was ∙ ap (λ z. map h ys ++ z ∷ []) same ∙ sym (map-append h ys (y ∷ []))
+-- one more is added
+pub one_added : {X : Type 0} (start added now more : List X) (x : X) → more ≡ now ++ x ∷ [] → now ≡ start ++ added → more ≡ start ++ (added ++ x ∷ [])
+one_added start added now more x e was = e ∙ ap (λ l. l ++ x ∷ []) was ∙ append_assoc start added (x ∷ [])
+
+module _ {N J E H T L A B : Type 0} (f : H → A) (g : T → B) where
+  -- a worker more
+  pub worker_more : (players more : List (Actor N J E H T L)) (player : Actor N J E H T L) (handlers : List (Vec H)) (some : Vec H) → more ≡ players ++ player ∷ [] → actor_made f g player ≡ of_worker (map f some.items)
+      → map (actor_made f g) players ≡ map (λ (hs : Vec H). of_worker (map f hs.items)) handlers → map (actor_made f g) more ≡ map (λ (hs : Vec H). of_worker (map f hs.items)) (handlers ++ some ∷ [])
+  worker_more players more player handlers some e same was =
+      mapped_more (actor_made f g) (λ (hs : Vec H). of_worker (map f hs.items)) players more player handlers some e same was
+
+  pub workers_all : (players : List (Actor N J E H T L)) (taken handlers : List (Vec H)) → map (actor_made f g) players ≡ map (λ (hs : Vec H). of_worker (map f hs.items)) taken → taken ≡ handlers
+      → map (actor_made f g) players ≡ map (λ (hs : Vec H). of_worker (map f hs.items)) handlers
+  workers_all players taken handlers was same = mapped_all (actor_made f g) (λ (hs : Vec H). of_worker (map f hs.items)) players taken handlers was same
+
+  -- a task worker more
+  pub tasker_more : (players more : List (Actor N J E H T L)) (player : Actor N J E H T L) (handlers : List T) (one : T) → more ≡ players ++ player ∷ [] → actor_made f g player ≡ of_tasker (g one)
+      → map (actor_made f g) players ≡ map (λ (t : T). of_tasker (g t)) handlers → map (actor_made f g) more ≡ map (λ (t : T). of_tasker (g t)) (handlers ++ one ∷ [])
+  tasker_more players more player handlers one e same was =
+      mapped_more (actor_made f g) (λ (t : T). of_tasker (g t)) players more player handlers one e same was
+
+  pub taskers_all : (players : List (Actor N J E H T L)) (taken handlers : List T) → map (actor_made f g) players ≡ map (λ (t : T). of_tasker (g t)) taken → taken ≡ handlers
+      → map (actor_made f g) players ≡ map (λ (t : T). of_tasker (g t)) handlers
+  taskers_all players taken handlers was same = mapped_all (actor_made f g) (λ (t : T). of_tasker (g t)) players taken handlers was same
 
 -- a map of a map
 twice : {X Y Z : Type 0} (f : Y → Z) (k : X → Y) (xs : List X) → map (λ x. f (k x)) xs ≡ map f (map k xs)

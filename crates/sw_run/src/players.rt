@@ -24,7 +24,6 @@ fn next(number: u32) -> u32 {
 }
 
 /// The workers of these handlers, in their order.
-#[tactic(auto, using(crate::proofs::LiningUp::mapped_more))]
 fn all_workers<
     N: Net + Drop,
     J: Naming,
@@ -53,7 +52,6 @@ where
 }
 
 /// The task workers of these handlers, in their order.
-#[tactic(auto, using(crate::proofs::LiningUp::mapped_more))]
 fn all_taskers<
     N: Net + Drop,
     J: Naming,
@@ -138,7 +136,6 @@ fn line_up<P: Drop>(
 }
 
 /// All players, in the order door, reactors, workers, task workers.
-#[tactic(auto, using(crate::proofs::LiningUp::lined_up))]
 pub(crate) fn assemble<
     N: Net + Drop,
     J: Naming,

@@ -127,7 +127,6 @@ where
 }
 
 /// Sorts players by their kinds.
-#[tactic(auto, using(crate::proofs::Sorting::sorted_none, crate::proofs::Sorting::sorted_more, crate::proofs::Sorting::sorted_all))]
 pub fn sort<
     N: Net + Drop,
     J: Naming,

@@ -50,7 +50,6 @@ fn end_tasker<L: Drop, J: Naming, T: Handler + Drop>(
 }
 
 /// The handlers of all workers, in their order, and whether none of these found no memory.
-#[tactic(auto, using(crate::proofs::Telling::mapped_more, crate::proofs::Telling::mapped_all))]
 pub fn end_workers<L: Drop, J: Naming, H: Handler + Drop>(
     alloc: Global,
     workers: Vec<Working<L, J, H>>,
@@ -61,15 +60,15 @@ pub fn end_workers<L: Drop, J: Naming, H: Handler + Drop>(
     let mut handlers = Vec::new(alloc);
     let mut whole = true;
     for worker in workers {
-        whole = !worker.worker.lost() && whole;
+        let lost = worker.worker.lost();
         let some = end_worker(worker, shares)?;
         handlers.push(some)?;
+        whole &= !lost;
     }
     Ok((handlers, whole))
 }
 
 /// The handlers of all task workers, in their order, and whether none of these found no memory.
-#[tactic(auto, using(crate::proofs::Telling::mapped_more, crate::proofs::Telling::mapped_all))]
 pub fn end_taskers<L: Drop, J: Naming, T: Handler + Drop>(
     alloc: Global,
     taskers: Vec<Tasking<L, J, T>>,
@@ -80,9 +79,10 @@ pub fn end_taskers<L: Drop, J: Naming, T: Handler + Drop>(
     let mut handlers = Vec::new(alloc);
     let mut whole = true;
     for tasker in taskers {
-        whole = !tasker.tasker.lost() && whole;
+        let lost = tasker.tasker.lost();
         let one = end_tasker(tasker, shares)?;
         handlers.push(one)?;
+        whole &= !lost;
     }
     Ok((handlers, whole))
 }

@@ -48,7 +48,7 @@ pub fn end_reactors<L: Link + Drop, J: Naming, E: Ends<L> + Drop, R: Wait>(
     for reactor in reactors {
         let (ends, swept) = end_reactor(rt, reactor, shares)?;
         all.push(ends)?;
-        whole = whole && swept;
+        whole &= swept;
     }
     Ok((all, whole))
 }
