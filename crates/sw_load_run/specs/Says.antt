@@ -6,7 +6,7 @@ use Rattle.sw_load.specs.declared.plan.Plan.{Plan}
 use Rattle.sw_load.specs.declared.summary.Summary.{Summary}
 use Rattle.sw_load_run.specs.Sums.{Left, IsSummary}
 use Rattle.sw_serve.specs.Statuses.{fault_text}
-use Rattle.sw_serve.specs.Written.{FromSink, IsWritten, IsCut, Finishes}
+use Rattle.sw_serve.specs.Written.{FromSink, IsWritten, IsCut}
 use Rattle.sw_serve.specs.declared.status.ServeStatus.{ServeStatus}
 use Rattle.sw_serve.specs.declared.status.ServeStatus.TheVariants as statuses
 

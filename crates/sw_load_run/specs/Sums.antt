@@ -10,10 +10,9 @@ use Rattle.sw_load.specs.declared.plan.Plan.{Plan}
 use Rattle.sw_load.specs.declared.summary.Summary.{Summary}
 use Rattle.sw_load_run.specs.declared.handler.Loading.{Loading}
 use Rattle.sw_sweep.specs.declared.stopped.Stopped.{Stopped}
-use Rattle.sw_table_laws.specs.Table.{State}
 use Rattle.sw_tmodel.specs.Dumps.{AreRowsOf}
 use Rattle.sw_tmodel.specs.Plain.{PlainTable}
-use Rattle.sw_tmodel.specs.declared.dumping.DumpRow.{DumpRow}
+use Rattle.sw_tmodel.specs.declared.dump_row.DumpRow.{DumpRow}
 
 -- a sum, as far as 64 bits go
 abbrev pub total : {X : Type 0} → (X → ℕ) → List X → ℕ
