@@ -149,14 +149,27 @@ fn bare_figure<R: Print + Clock + Threads + Sync>(
     print_each(rt, "add", start.elapsed(rt)?.as_nanos(), ADDS)
 }
 
+/// Measures all on these rows, by so many threads.
+fn rows_figures<R: Print + Clock + Threads + Wait + Sync>(
+    rt: &R,
+    alloc: Global,
+    rows: Rows,
+    threads: u32,
+) -> io::Result<()>
+    requires { threads < 1000 }
+{
+    bare_figure(rt, alloc, rows, threads)?;
+    verb_figures(rt, alloc, Verb::Get, rows, threads)?;
+    verb_figures(rt, alloc, Verb::Set, rows, threads)?;
+    verb_figures(rt, alloc, Verb::Incr, rows, threads)?;
+    verb_figures(rt, alloc, Verb::SetAndDel, rows, threads)
+}
+
 /// Nanoseconds a call of one thread.
 pub fn figures<R: Print + Clock + Threads + Wait + Sync>(rt: &R, alloc: Global) -> io::Result<()> {
     for rows in [Rows::Own, Rows::One] {
         for threads in [1, 2, 4] {
-            bare_figure(rt, alloc, rows, threads)?;
-            for verb in [Verb::Get, Verb::Set, Verb::Incr, Verb::SetAndDel] {
-                verb_figures(rt, alloc, verb, rows, threads)?;
-            }
+            rows_figures(rt, alloc, rows, threads)?;
         }
     }
     table_plain::figures(rt, alloc)
