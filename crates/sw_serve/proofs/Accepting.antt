@@ -1,5 +1,5 @@
 -- Accepts of a net, one more behind the others.
-use Rattle.std.proofs.Common.{◌≡◌, ◌∙◌, ℕ, [], ◌∷◌, refl, ap}
+use Rattle.std.proofs.Common.{◌≡◌, ◌∙◌, ℕ, List, [], ◌∷◌, refl, ap}
 use Rattle.sw_link.specs.declared.net.Accept.{Accept}
 use Rattle.sw_serve.specs.Accepts.{counted, Gave}
 

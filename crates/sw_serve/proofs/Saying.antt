@@ -1,8 +1,9 @@
 -- Each status that serve answers has its cause, and what it says was written.
-use Rattle.std.proofs.Common.{◌≡◌, ℕ, ◌≤◌, inl, inr, List, ◌++◌, length, Option, Some, None, Result, Ok, Err, refl, ap, sym, subst, ◌∙◌, arith, length-append}
+use Rattle.std.proofs.Common.{◌≡◌, ℕ, ◌≤◌, ◌<◌, ◌⊎◌, inl, inr, List, ◌++◌, length, Option, Some, None, Result, Ok, Err, refl, ap, sym, subst, ◌∙◌, arith, length-append}
 use Rattle.std.proofs.lemmas.List.{append-nil}
 use Rattle.std.specs.Io.KnownBytes.{Consumes, IsAtEnd}
 use Rattle.sw_causes.specs.Causes.{Rises}
+use Rattle.sw_causes.specs.Whole.{limit}
 use Rattle.sw_link.specs.declared.net.Accept.{Accept}
 use Rattle.sw_serve.specs.Accepts.{GaveLinks, LedTo}
 use Rattle.sw_serve.specs.Inputs.{input_of}

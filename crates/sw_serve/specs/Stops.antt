@@ -1,5 +1,5 @@
 -- How a server of serve ended, with the net that is left.
-use Rattle.std.specs.Prelude.{ℕ}
+use Rattle.std.specs.Prelude.{◌≡◌, ℕ}
 use Rattle.sw_causes.specs.Causes.{Rises}
 use Rattle.sw_link.specs.declared.net.Accept.{Accept}
 use Rattle.sw_serve.specs.Accepts.{GaveLinks, LedTo}
