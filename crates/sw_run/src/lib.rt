@@ -2,10 +2,8 @@
 //! back.
 #![tactic(auto)]
 
-mod assembling;
 mod counting;
 mod faults;
-mod players;
 mod server;
 
 pub use faults::{Part, ServeFault};

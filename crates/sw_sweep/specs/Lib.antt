@@ -1,4 +1,0 @@
-pub mod Stopped
-pub mod Sorted
-pub mod Told
-pub mod Ended

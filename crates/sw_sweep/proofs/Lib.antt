@@ -1,4 +1,0 @@
-pub mod Ending
-pub mod Sorting
-pub mod Taking
-pub mod Telling
