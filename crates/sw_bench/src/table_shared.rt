@@ -1,5 +1,5 @@
 //! Threads that make calls of a shared Table.
-ghost use Rattle.std.specs.Prelude.{All, IfOk};
+ghost use Rattle.std.specs.Prelude.{◌<◌, All, IfOk};
 ghost use Rattle.sw_table_uses.specs.Players.{IsPlayer};
 
 use std::alloc::{AllocError, Global};
