@@ -1,6 +1,8 @@
 //! A bare atomic word, to compare with.
+use std::alloc::{AllocError, Global};
 use std::sync::atomic::AtomicU64;
 use std::sync::atomic::Ordering::SeqCst;
+use std::thread::{Threads, map_indices};
 
 /// One thread's bare word, with room around it for a cache line of its own, and what its calls found.
 #[derive(Drop)]
@@ -48,4 +50,34 @@ impl Bare {
         }
         self.sum = sum;
     }
+}
+
+/// Adds one to a word so many times.
+fn add(word: &AtomicU64, times: u64) {
+    for _ in 0..times {
+        let _before = word.fetch_add(1, SeqCst);
+    }
+}
+
+/// Threads each add one to one word so many times.
+pub fn add_shared<R: Threads + Sync>(
+    rt: &R,
+    alloc: Global,
+    threads: usize,
+    times: u64,
+) -> Result<(), AllocError> {
+    let word = AtomicU64::new(0);
+    map_indices(rt, alloc, threads, &|_| add(&word, times))?;
+    Ok(())
+}
+
+/// Threads each add one to a word of their own so many times.
+pub fn add_own<R: Threads + Sync>(
+    rt: &R,
+    alloc: Global,
+    threads: usize,
+    times: u64,
+) -> Result<(), AllocError> {
+    map_indices(rt, alloc, threads, &|_| Bare::new().add(times))?;
+    Ok(())
 }

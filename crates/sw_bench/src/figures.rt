@@ -2,6 +2,7 @@
 
 use std::alloc::AllocError;
 use std::io;
+use std::time::{CpuClock, Duration};
 
 /// What is printed where a part finds no memory.
 pub const NO_MEMORY: &str = "no memory";
@@ -13,6 +14,11 @@ pub fn print_each<R: Print>(rt: &R, what: &str, nanos: u128, times: u64) -> io::
         Err(_) => u64::MAX,
     };
     println!(rt; "{what}: {}.{:02} ns", hundredths / 100, hundredths % 100)
+}
+
+/// The processor time of this thread from a moment on, in nanoseconds.
+pub fn since<R: CpuClock>(rt: &R, start: Duration) -> io::Result<u128> {
+    Ok(rt.thread_cpu_time()?.saturating_sub(start).as_nanos())
 }
 
 /// The middle one of these figures; 0 of none.

@@ -13,12 +13,19 @@ mod rowlock_loads;
 mod rowlock_swaps;
 mod sessions;
 mod table;
+mod table_calls;
+mod table_maps;
+mod table_plain;
+mod table_shared;
 mod timers;
+mod turn;
+mod turn_link;
+mod turn_scene;
 
 use std::{env, io};
 
 /// What is printed where no part is named, behind a small load that is the same at each run.
-const USAGE: &str = "usage: sw_bench pipe|rowlock|board|sessions|table|audit|cut|timers";
+const USAGE: &str = "usage: sw_bench pipe|rowlock|board|sessions|table|audit|cut|timers|turn";
 
 fn main(rt: HostRuntime) -> io::Result<()> {
     let mut words = env::args(&rt)?;
@@ -36,6 +43,7 @@ fn main(rt: HostRuntime) -> io::Result<()> {
         "audit" => audit::figures(&rt, rt.alloc()),
         "cut" => cut::figures(&rt, rt.alloc()),
         "timers" => timers::figures(&rt, rt.alloc()),
+        "turn" => turn::figures(&rt, rt.alloc()),
         _ => println!(rt; "{USAGE}"),
     }
 }

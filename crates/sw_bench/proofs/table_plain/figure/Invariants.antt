@@ -1,5 +1,5 @@
 use Rattle.sw_column.specs.Values.{HasKinds}
-use Rattle.sw_bench.proofs.table.figure.Given as goal
+use Rattle.sw_bench.proofs.table_plain.figure.Given as goal
 
 -- the buffer is one for the Table's columns
 abbrev pub invariant-loop : goal.invariant-loop

@@ -1,6 +1,6 @@
 use Rattle.std.proofs.Common.{◌≡◌}
 use Rattle.sw_column.specs.Values.{HasKinds}
-use Rattle.sw_bench.proofs.table.round.Given as goal
+use Rattle.sw_bench.proofs.table_plain.round.Given as goal
 
 -- the columns stay, and the buffer is one for them
 abbrev pub invariant-loop-call : goal.invariant-loop-call
