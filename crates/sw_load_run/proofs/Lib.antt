@@ -1,0 +1,4 @@
+pub mod News
+pub mod Making
+pub mod Hearing
+pub mod Saying

@@ -1,0 +1,5 @@
+use Rattle.sw_link.specs.MemoryNets.{IsNew}
+use Rattle.sw_load_run.proofs.net.link_of.Given as goal
+
+abbrev pub invariant-loop-piece : goal.invariant-loop-piece
+invariant-loop-piece l = IsNew l.link

@@ -1,0 +1,4 @@
+pub mod Loading
+pub mod Nets
+pub mod Sums
+pub mod Says

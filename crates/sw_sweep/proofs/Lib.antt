@@ -1,0 +1,4 @@
+pub mod Ending
+pub mod Sorting
+pub mod Taking
+pub mod Telling

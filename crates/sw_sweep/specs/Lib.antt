@@ -1,0 +1,4 @@
+pub mod Stopped
+pub mod Sorted
+pub mod Told
+pub mod Ended
