@@ -3,37 +3,47 @@
 use mio::Waker;
 use std::sync::atomic::{AtomicU64, Ordering};
 
-/// Ends the sleep of a `Site`. A ring makes a system call only where the site said that it sleeps.
+/// Its site is awake, and nobody rang.
+const AWAKE: u64 = 0;
+
+/// Its site sleeps.
+const ASLEEP: u64 = 1;
+
+/// Somebody rang since the site looked last.
+const RUNG: u64 = 2;
+
+/// Ends the sleep of a `Site`. A ring before the sleep ends it at once, so none is lost; it makes a system call only where the site
+/// sleeps.
 #[derive(Drop)]
 pub struct Bell {
-    sleeping: AtomicU64,
+    state: AtomicU64,
     waker: Waker,
 }
 
 impl Bell {
     pub(crate) fn new(waker: Waker) -> Bell {
         Bell {
-            sleeping: AtomicU64::new(0),
+            state: AtomicU64::new(AWAKE),
             waker,
         }
     }
 
-    /// Wakes the site, if it sleeps. Whoever gives a site something to do rings behind it.
+    /// Ends the site's sleep, or the next one. Whoever gives a site something to do rings behind it.
     pub fn ring(&self) {
-        if self.sleeping.load(Ordering::SeqCst) != 0
-            && self.sleeping.swap(0, Ordering::SeqCst) != 0
+        if self.state.load(Ordering::SeqCst) != RUNG
+            && self.state.swap(RUNG, Ordering::SeqCst) == ASLEEP
         {
             let _ = self.waker.wake();
         }
     }
 
-    /// The site is about to sleep, and looks once more for something to do.
-    pub(crate) fn set(&self) {
-        self.sleeping.store(1, Ordering::SeqCst);
+    /// The site is about to sleep. Answers whether it may: nobody rang since it looked last.
+    pub(crate) fn may_sleep(&self) -> bool {
+        self.state.swap(ASLEEP, Ordering::SeqCst) != RUNG
     }
 
-    /// The site is awake.
-    pub(crate) fn unset(&self) {
-        self.sleeping.store(0, Ordering::SeqCst);
+    /// The site is awake, and looks for what there is to do.
+    pub(crate) fn wakes(&self) {
+        self.state.store(AWAKE, Ordering::SeqCst);
     }
 }

@@ -103,23 +103,15 @@ impl Site {
         self.wait(Some(Duration::from_millis(0)))
     }
 
-    /// Sleeps until a socket is ready, the bell rings or the time is up. It doesn't where `has_work` says that there is
-    /// something to do: this look comes behind the word that it sleeps, so no ring is lost.
-    pub fn sleep<F: FnMut() -> bool>(
-        &mut self,
-        timeout: Option<Duration>,
-        mut has_work: F,
-    ) -> io::Result<()>
-        requires { F.IsAlwaysCallable has_work }
-    {
-        self.bell.set();
-        let timeout = if has_work() {
-            Some(Duration::from_millis(0))
+    /// Sleeps until a socket is ready, the bell rings or the time is up; it doesn't where the bell rang since it slept last.
+    pub fn sleep(&mut self, most: Duration) -> io::Result<()> {
+        let most = if self.bell.may_sleep() {
+            most
         } else {
-            timeout
+            Duration::from_millis(0)
         };
-        let waited = self.wait(timeout);
-        self.bell.unset();
+        let waited = self.wait(Some(most));
+        self.bell.wakes();
         waited
     }
 

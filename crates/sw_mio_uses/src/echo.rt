@@ -14,7 +14,7 @@ const ROUNDS: u32 = 1000;
 const SLEEP: u64 = 20;
 
 fn rest(site: &mut Site) -> io::Result<()> {
-    site.sleep(Some(Duration::from_millis(SLEEP)), || false)
+    site.sleep(Duration::from_millis(SLEEP))
 }
 
 /// The first link of a net.

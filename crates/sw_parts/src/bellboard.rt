@@ -1,6 +1,7 @@
 //! The bells of all players.
 
-use crate::bell::{Bell, Bells};
+use crate::bell::Bell;
+use crate::bells::Bells;
 use std::alloc::Global;
 use sw_base::OutOfMemory;
 
@@ -38,21 +39,33 @@ fn own(alloc: Global, bells: &Vec<Bell>, number: u32) -> Result<Bell, OutOfMemor
     }
 }
 
-/// So many milliseconds at most sleeps who waits for sockets too.
-const SHORT: u64 = 10;
+/// So many milliseconds at most sleeps who looks at sockets or at a net by itself.
+const SHORT: u64 = 5;
 
 /// So many milliseconds at most sleeps who waits for its pipe alone.
 const LONG: u64 = 100;
 
+/// So many milliseconds at most sleeps who is woken by its sockets.
+const LONGEST: u64 = 1000;
+
+/// How long a reactor with this bell sleeps at most.
+fn most_of(bell: &Bell) -> u64 {
+    match bell {
+        Bell::Parked(_) => SHORT,
+        Bell::Polled(_) => LONGEST,
+    }
+}
+
 impl Bellboard {
+    /// The bells of these reactors, and of so many workers and task workers.
     pub fn make(
         alloc: Global,
-        reactors: u32,
+        reactors: Vec<Bell>,
         workers: u32,
         taskers: u32,
     ) -> Result<Bellboard, OutOfMemory> {
         Ok(Bellboard {
-            reactors: some(alloc, reactors)?,
+            reactors,
             workers: some(alloc, workers)?,
             taskers: some(alloc, taskers)?,
         })
@@ -66,7 +79,8 @@ impl Bellboard {
             taskers: shared(alloc, &self.taskers)?,
             most,
             rests: 0,
-            sleeps: 0,
+            slept: 0,
+            turns: 0,
         })
     }
 
@@ -79,7 +93,8 @@ impl Bellboard {
     /// Those of a reactor.
     pub fn of_reactor(&self, alloc: Global, number: u32) -> Result<Bells, OutOfMemory> {
         let own = own(alloc, &self.reactors, number)?;
-        self.with(alloc, own, SHORT)
+        let most = most_of(&own);
+        self.with(alloc, own, most)
     }
 
     /// Those of a worker.

@@ -4,14 +4,18 @@
 
 mod bell;
 mod bellboard;
+mod bells;
+mod edge;
 mod lines;
 mod making;
 mod parts;
 mod plan;
 mod rows;
 
-pub use bell::{Bell, Bells};
+pub use bell::Bell;
 pub use bellboard::Bellboard;
+pub use bells::Bells;
+pub use edge::Edge;
 pub use lines::Lines;
 pub use making::{make_board, make_table};
 pub use parts::{AllPipes, Parts, Pipes, all_pipes, first, named_seats};

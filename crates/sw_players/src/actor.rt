@@ -6,7 +6,8 @@ use crate::tasker::TaskerPlayer;
 use crate::worker::WorkerPlayer;
 use std::sync::Wait;
 use sw_handler::Handler;
-use sw_link::{Ends, Net};
+use sw_link::Net;
+use sw_parts::Edge;
 use sw_shared::Naming;
 use sw_spawn::{Player, Went};
 
@@ -19,7 +20,7 @@ pub enum Actor<N: Net, J: Naming, E, H, T> {
     Tasker(TaskerPlayer<N::Link, J, T>),
 }
 
-impl<N: Net, J: Naming, E: Ends<N::Link>, H: Handler, T: Handler> Player for Actor<N, J, E, H, T>
+impl<N: Net, J: Naming, E: Edge<N::Link>, H: Handler, T: Handler> Player for Actor<N, J, E, H, T>
 where
     N::Link: Drop,
 {

@@ -1,5 +1,5 @@
 //! A reactor as a player.
-ghost use Rattle.std.specs.Prelude.{◌≡◌};
+ghost use Rattle.std.specs.Prelude.{◌≡◌, ◌<◌};
 ghost use Rattle.sw_board.specs.Values.{SeatGoes};
 ghost use Rattle.sw_reactor.specs.Serving.{Turns, ports_of};
 ghost use Rattle.sw_players.specs.Turns.{IsReactor};
@@ -14,10 +14,14 @@ use std::mem::replace;
 use std::sync::Wait;
 use sw_data::{Ask, Got, Msg};
 use sw_link::{Ends, Link};
-use sw_parts::{Bells, Lines};
+use sw_parts::{Bells, Edge, Lines};
+use sw_port_book::Ticketed;
 use sw_reactor::Reactor;
 use sw_shared::{NamedPass, NamedSeat, NamedTicket, Naming};
 use sw_spawn::Went;
+
+/// After so many turns it learns which links are ready, however much it has to do.
+const LOOK: u64 = 64;
 
 /// A reactor with its pass of the session words, its seat at the board, its ends, and its ends of the pipes.
 #[derive(Drop)]
@@ -35,7 +39,18 @@ pub struct Reacting<L, J: Naming, E> {
     pub over: bool,
 }
 
-impl<L: Link + Drop, J: Naming, E: Ends<L>> Reacting<L, J, E> {
+impl<L: Link + Drop, J: Naming, E: Edge<L>> Reacting<L, J, E> {
+    /// A link that came is polled for from now on.
+    fn adopts(&mut self, got: &mut Got<Msg<L, NamedTicket<J>>>)
+        requires { 0 < self.old.reactor.terms.max_conn }
+        ensures { self.new.reactor ≡ self.old.reactor }
+    {
+        if let Got::Took(Msg::Fresh(link, _, ticket)) = got {
+            let slot = ticket.session().number() % self.reactor.terms.max_conn;
+            self.ends.adopt(slot, link);
+        }
+    }
+
     /// One turn of the reactor.
     fn turn(&mut self, got: Got<Msg<L, NamedTicket<J>>>) -> Ask<Msg<L, NamedTicket<J>>>
         requires { IsReactor (λ t. t.number) (slots J.book) J.board.sizes self.old.reactor }
@@ -59,7 +74,11 @@ impl<L: Link + Drop, J: Naming, E: Ends<L>> Reacting<L, J, E> {
         ensures reactor { IsReactor (λ t. t.number) (slots J.book) J.board.sizes self.new.reactor }
         ensures over { self.new.over ≡ is_end result }
     {
-        let got = replace(&mut self.got, Got::Nothing);
+        let mut got = replace(&mut self.got, Got::Nothing);
+        self.adopts(&mut got);
+        if self.bells.is_to_look(LOOK) {
+            self.ends.look();
+        }
         let ask = self.turn(got);
         let went = went_of(&ask);
         let to = target_of(&ask);
@@ -112,7 +131,9 @@ impl<L: Link + Drop, J: Naming, E: Ends<L>> ReactorPlayer<L, J, E> {
     {
         self.inner.over
     }
+}
 
+impl<L: Link + Drop, J: Naming, E: Edge<L>> ReactorPlayer<L, J, E> {
     pub(crate) fn go<R: Wait>(&mut self, rt: &R) -> Went
         ensures over { self.new.over ≡ is_end result }
     {
@@ -123,6 +144,8 @@ impl<L: Link + Drop, J: Naming, E: Ends<L>> ReactorPlayer<L, J, E> {
         ensures over { self.new.over ≡ self.old.over }
     {
         let round = self.inner.reactor.count() as u64;
-        self.inner.bells.rest(rt, round);
+        if let Some(most) = self.inner.bells.sleep_of(round) {
+            self.inner.ends.sleep(rt, &self.inner.bells.own, most);
+        }
     }
 }

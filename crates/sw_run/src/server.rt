@@ -17,8 +17,8 @@ use std::sync::{Arc, Wait};
 use std::thread::Threads;
 use sw_base::OutOfMemory;
 use sw_handler::Handler;
-use sw_link::{Ends, Net};
-use sw_parts::{Bellboard, Parts, all_pipes, make_board, make_table, named_seats};
+use sw_link::{Link, Net};
+use sw_parts::{Bell, Bellboard, Edge, Parts, all_pipes, make_board, make_table, named_seats};
 use sw_players::Actor;
 use sw_settings::Settings;
 use sw_shared::{NamedClerk, Naming, Stands};
@@ -34,7 +34,7 @@ use sw_sweep::{Stopped, finish};
 #[tactic(auto, using(crate::proofs::Telling::counted_all))]
 pub fn run_server<
     N: Net + Drop + Send + 'static,
-    E: Ends<N::Link> + Drop + Send + 'static,
+    E: Edge<N::Link> + Drop + Send + 'static,
     H: Handler + Drop + Send + 'static,
     T: Handler + Drop + Send + 'static,
     P: Spawner,
@@ -70,7 +70,7 @@ where
 /// Runs a server that has all that it needs.
 fn run_counted<
     N: Net + Drop + Send + 'static,
-    E: Ends<N::Link> + Drop + Send + 'static,
+    E: Edge<N::Link> + Drop + Send + 'static,
     H: Handler + Drop + Send + 'static,
     T: Handler + Drop + Send + 'static,
     P: Spawner,
@@ -100,7 +100,7 @@ where
 fn play<
     N: Net + Drop + Send + 'static,
     J: Naming + Send + 'static,
-    E: Ends<N::Link> + Drop + Send + 'static,
+    E: Edge<N::Link> + Drop + Send + 'static,
     H: Handler + Drop + Send + 'static,
     T: Handler + Drop + Send + 'static,
     P: Spawner,
@@ -141,11 +141,24 @@ fn told<N, E, H, T>(
     }
 }
 
+/// The bells of the first so many edges.
+fn bells_of<L: Link, E: Edge<L>>(
+    alloc: Global,
+    ends: &mut [E],
+    count: u32,
+) -> Result<Vec<Bell>, OutOfMemory> {
+    let mut bells = Vec::with_capacity(alloc, count as usize)?;
+    for one in ends.iter_mut().take(count as usize) {
+        bells.push(one.bell(alloc)?)?;
+    }
+    Ok(bells)
+}
+
 /// Makes all, runs it, and puts together what came back.
 #[tactic(auto, using(crate::proofs::Telling::told_ends, crate::proofs::Telling::told_gives, crate::proofs::Telling::hears_of, crate::proofs::Telling::has_back))]
 fn run_named<
     N: Net + Drop + Send + 'static,
-    E: Ends<N::Link> + Drop + Send + 'static,
+    E: Edge<N::Link> + Drop + Send + 'static,
     H: Handler + Drop + Send + 'static,
     T: Handler + Drop + Send + 'static,
     P: Spawner,
@@ -175,6 +188,8 @@ where
     ensures handlers { GivesBack H.made T.made (map (λ hs. map H.made hs.items) given.workers.items) (map T.made given.taskers.items) result }
     ensures count { P.count spawner.old ≤ P.count spawner.new }
 {
+    let mut given = given;
+    let reactors = bells_of(alloc, given.ends.as_mut_slice(), settings.reactor_num())?;
     let parts = Parts {
         pipes: all_pipes(alloc, settings)?,
         clerk: NamedClerk::<J>::new(clerk),
@@ -182,7 +197,7 @@ where
         stands: Stands::new(table, hands, seat),
         bells: Bellboard::make(
             alloc,
-            settings.reactor_num(),
+            reactors,
             settings.worker_num(),
             settings.task_worker_num(),
         )?,

@@ -9,7 +9,8 @@ use std::alloc::Global;
 use std::sync::Wait;
 use std::thread::Threads;
 use sw_handler::Handler;
-use sw_link::{Ends, Net};
+use sw_link::Net;
+use sw_parts::Edge;
 use sw_run::{ServeFault, run_server};
 use sw_settings::Settings;
 use sw_spawn::Spawner;
@@ -58,7 +59,7 @@ fn uncounted<N: Net + Drop, J: First<N>, E, H, T>(
 #[tactic(auto, using(crate::proofs::Ending::deaf, crate::proofs::Ending::short))]
 pub fn run_counted<
     N: Net + Drop + Send + 'static,
-    E: Ends<N::Link> + Drop + Send + 'static,
+    E: Edge<N::Link> + Drop + Send + 'static,
     H: Handler + Drop + Send + 'static,
     T: Handler + Drop + Send + 'static,
     P: Spawner,

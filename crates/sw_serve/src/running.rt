@@ -13,7 +13,8 @@ use std::sync::Wait;
 use std::thread::Threads;
 use sw_following::Following;
 use sw_http_worker::HttpWorker;
-use sw_link::{Ends, Net};
+use sw_link::Net;
+use sw_parts::Edge;
 use sw_settings::Settings;
 use sw_spawn::Spawner;
 
@@ -45,7 +46,7 @@ fn stop_of<N: Net + Drop, E: Drop, H: Drop, T: Drop>(ended: Ended<N, E, H, T>) -
 /// Runs a server with these workers, of whichever kind they are.
 fn run_with<
     N: Net + Drop + Send + 'static,
-    E: Ends<N::Link> + Drop + Send + 'static,
+    E: Edge<N::Link> + Drop + Send + 'static,
     P: Spawner,
     R: Threads + Wait + Copy + Send + 'static,
 >(
@@ -82,7 +83,7 @@ where
 /// Runs the server that an input asks for.
 pub(crate) fn run<
     N: Net + Drop + Send + 'static,
-    E: Ends<N::Link> + Drop + Send + 'static,
+    E: Edge<N::Link> + Drop + Send + 'static,
     P: Spawner,
     R: Threads + Wait + Copy + Send + 'static,
 >(rt: R, alloc: Global, input: &Input, net: N, ends: Vec<E>, spawner: &mut P) -> Stop<N>

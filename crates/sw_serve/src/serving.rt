@@ -10,7 +10,8 @@ use std::alloc::Global;
 use std::sync::Wait;
 use std::thread::Threads;
 use sw_causes::{InputFault, Sink, Source, read_whole};
-use sw_link::{Ends, Net};
+use sw_link::Net;
+use sw_parts::Edge;
 use sw_spawn::Spawner;
 
 /// The input that these bytes are.
@@ -56,7 +57,7 @@ fn work<
     S: Source,
     K: Sink,
     N: Net + Drop + Send + 'static,
-    E: Ends<N::Link> + Drop + Send + 'static,
+    E: Edge<N::Link> + Drop + Send + 'static,
     P: Spawner,
     R: Threads + Wait + Copy + Send + 'static,
 >(
@@ -121,7 +122,7 @@ pub fn serve<
     S: Source,
     K: Sink,
     N: Net + Drop + Send + 'static,
-    E: Ends<N::Link> + Drop + Send + 'static,
+    E: Edge<N::Link> + Drop + Send + 'static,
     P: Spawner,
     R: Threads + Wait + Copy + Send + 'static,
 >(

@@ -8,6 +8,8 @@ use std::sync::Wait;
 use std::thread::Threads;
 use std::{env, io};
 use sw_causes::{ReaderSource, Sink, Source, WriterSink};
+use sw_base::OutOfMemory;
+use sw_edge::Sited;
 use sw_link::Dropper;
 use sw_load::Plan;
 use sw_load_run::load;
@@ -61,6 +63,17 @@ fn kind(arguments: &Option<Vec<String>>) -> Kind {
     }
 }
 
+/// Ends that drop the links of each reactor, which sleeps until one of them is ready.
+fn ends<R: Sockets + Copy + Drop>(rt: R, alloc: Global) -> Result<Vec<Sited<Dropper, R>>, OutOfMemory>
+    ensures { IfOk result (λ all. vec_len all ≡ 65) }
+{
+    let mut all = Vec::with_capacity(alloc, ENDS)?;
+    for _ in 0..ENDS {
+        all.push(Sited::new(rt, Dropper::new()))?;
+    }
+    Ok(all)
+}
+
 /// Serves on a port of 127.0.0.1, and answers the number that the program ends with.
 fn serve_on<S: Source, K: Sink, R: Threads + Wait + Sockets + Copy + Drop + Send + 'static>(
     rt: R,
@@ -71,7 +84,7 @@ fn serve_on<S: Source, K: Sink, R: Threads + Wait + Sockets + Copy + Drop + Send
 ) -> u8 {
     let port = words.port.unwrap_or(PORT);
     let net = MioNet::new(rt, port, words.accept);
-    let Ok(ends) = vec![in alloc; Dropper::new(); ENDS] else {
+    let Ok(ends) = ends(rt, alloc) else {
         return NO_MEMORY;
     };
     serve(rt, alloc, source, sink, net, ends, &mut EachOnAThread {}).status.number()

@@ -1,0 +1,6 @@
+//! The edge of a reactor over sockets.
+#![tactic(auto)]
+
+mod sited;
+
+pub use sited::Sited;
