@@ -6,6 +6,7 @@ use std::sync::Wait;
 use std::thread::Threads;
 use sw_base::OutOfMemory;
 use sw_data::Cause;
+use sw_edge::Sited;
 use sw_handler::Echo;
 use sw_link::Keeper;
 use sw_mio::{MioLink, MioNet};
@@ -15,7 +16,7 @@ use sw_spawn::Threads as EachOnAThread;
 use sw_sweep::Stopped;
 
 /// What is left of a server over sockets.
-pub type Kept<R> = Stopped<MioNet<R>, Keeper<MioLink>, Echo, Echo>;
+pub type Kept<R> = Stopped<MioNet<R>, Sited<Keeper<MioLink>, R>, Echo, Echo>;
 
 /// So many handlers that echo.
 fn echoes(alloc: Global, count: u32) -> Result<Vec<Echo>, OutOfMemory> {
@@ -35,7 +36,7 @@ pub fn serve_kept<R: Threads + Wait + Sockets + Copy + Drop + Send + 'static>(
 ) -> Result<Option<Kept<R>>, OutOfMemory> {
     let mut ends = Vec::new(alloc);
     for _ in 0..settings.reactor_num() + 1 {
-        ends.push(Keeper::new(alloc))?;
+        ends.push(Sited::new(rt, Keeper::new(alloc)))?;
     }
     let mut workers = Vec::new(alloc);
     for _ in 0..settings.worker_num() {
@@ -96,10 +97,10 @@ impl Tally {
     }
 
     /// That of all links that were kept.
-    pub fn of(ends: &[Keeper<MioLink>]) -> Tally {
+    pub fn of<R>(ends: &[Sited<Keeper<MioLink>, R>]) -> Tally {
         let mut tally = Tally::none();
         for some in ends {
-            for one in some.kept() {
+            for one in some.ends().kept() {
                 tally.add(one.1.cause);
             }
         }

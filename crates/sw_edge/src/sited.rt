@@ -1,4 +1,5 @@
 //! Ends with the site at which their reactor sleeps.
+ghost use Rattle.std.specs.Prelude.{◌≡◌};
 
 use std::alloc::Global;
 use std::net::Net as Sockets;
@@ -31,12 +32,11 @@ impl<E, R> Sited<E, R> {
         }
     }
 
-    /// The ends.
-    pub fn into_ends(self) -> E
-        ensures { result ≡ self.ends }
+    /// Lends the ends.
+    pub fn ends(&self) -> &E
+        ensures { result.now ≡ self.now.ends }
     {
-        let Sited { ends, .. } = self;
-        ends
+        &self.ends
     }
 }
 

@@ -1,4 +1,5 @@
 //! What a thread has of the system: one poll, the marks of its sockets, and a bell.
+ghost use Rattle.std.specs.Prelude.{◌≡◌};
 
 use crate::bell::Bell;
 use crate::mio_link::MioLink;
@@ -63,7 +64,9 @@ impl Site {
     }
 
     /// Polls for the link of a slot from now on, in place of the one that had the slot before.
-    pub fn adopt(&mut self, slot: usize, link: &mut MioLink) -> io::Result<()> {
+    pub fn adopt(&mut self, slot: usize, link: &mut MioLink) -> io::Result<()>
+        ensures { link.new.faults ≡ link.old.faults }
+    {
         let readiness = self.readiness_at(slot)?;
         let both = Interest::READABLE | Interest::WRITABLE;
         self.poll

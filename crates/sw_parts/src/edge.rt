@@ -11,21 +11,21 @@ use sw_link::{Dropper, Ends, Keeper, Link};
 pub trait Edge<L: Link>: Ends<L> {
     /// The bell that ends its owner's sleep.
     fn bell(&mut self, alloc: Global) -> Result<Bell, OutOfMemory>
-        ensures { kept self.new ≡ kept self.old };
+        ensures { Self.kept self.new ≡ Self.kept self.old };
 
     /// Its owner has this link from now on, at a slot that none of its other links has. The link is told what is ready.
     fn adopt(&mut self, slot: u32, link: &mut L)
-        ensures kept { kept self.new ≡ kept self.old }
+        ensures kept { Self.kept self.new ≡ Self.kept self.old }
         ensures told { L.told link.new ≡ L.told link.old }
         ensures faults { L.faults link.new ≡ L.faults link.old };
 
     /// Learns what is ready, and goes on at once.
     fn look(&mut self)
-        ensures { kept self.new ≡ kept self.old };
+        ensures { Self.kept self.new ≡ Self.kept self.old };
 
     /// Sleeps until its bell rings or something is ready, so many milliseconds at most.
     fn sleep<R: Wait>(&mut self, rt: &R, bell: &Bell, most: u64)
-        ensures { kept self.new ≡ kept self.old };
+        ensures { Self.kept self.new ≡ Self.kept self.old };
 }
 
 impl<L: Link> Edge<L> for Keeper<L> {

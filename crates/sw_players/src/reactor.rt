@@ -45,9 +45,11 @@ impl<L: Link + Drop, J: Naming, E: Edge<L>> Reacting<L, J, E> {
         requires { 0 < self.old.reactor.terms.max_conn }
         ensures { self.new.reactor ≡ self.old.reactor }
     {
-        if let Got::Took(Msg::Fresh(link, _, ticket)) = got {
-            let slot = ticket.session().number() % self.reactor.terms.max_conn;
-            self.ends.adopt(slot, link);
+        if let Got::Took(message) = got {
+            if let Msg::Fresh(link, _, ticket) = message {
+                let slot = ticket.session().number() % self.reactor.terms.max_conn;
+                self.ends.adopt(slot, link);
+            }
         }
     }
 

@@ -16,6 +16,7 @@ use std::marker::Brand;
 use std::sync::{Arc, Wait};
 use std::thread::Threads;
 use sw_base::OutOfMemory;
+use sw_crossing::actor_crosses;
 use sw_handler::Handler;
 use sw_link::{Link, Net};
 use sw_parts::{Bell, Bellboard, Edge, Parts, all_pipes, make_board, make_table, named_seats};
@@ -117,6 +118,7 @@ where
     ensures short { IfOk result (λ r. FellShort r.1 (P.count spawner.old) (P.count spawner.new)) }
     ensures count { P.count spawner.old ≤ P.count spawner.new }
 {
+    actor_crosses::<N, J, E, H, T>();
     match spawner.run(rt, alloc, players) {
         Ran::All(players) => Ok((players, false)),
         Ran::Failed(players) => Ok((players, true)),
