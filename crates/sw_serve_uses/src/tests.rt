@@ -2,18 +2,20 @@
 
 use super::*;
 use std::alloc::Global;
+use std::sync::Wait;
 use std::test::Fail;
 use std::thread;
+use std::thread::Threads as Runs;
 use sw_causes::{MemorySink, SureSource};
 use sw_data::Cause;
-use sw_link::{Dropper, MemoryNet};
+use sw_link::{Dropper, Keeper, MemoryNet};
 use sw_mio::MioNet;
 use sw_mio_uses::ask;
-use sw_run::ServeFault;
+use sw_run::{ServeFault, run_server};
 use sw_serve::serve;
 use sw_settings::Settings;
 use sw_settings_json::from_json;
-use sw_spawn::{Threads, Turns};
+use sw_spawn::{Spawner, Threads, Turns};
 
 fn settings(alloc: Global, text: &[u8]) -> Option<Settings> {
     from_json(alloc, text).ok()
@@ -127,6 +129,38 @@ fn whole_requests_come_back_over_sockets(rt: HostRuntime) -> Result<(), Fail> {
     assert!(rt; sink.bytes() == b"served 1\n".as_slice());
     let answer = peer.join(&rt).expect(&rt, "an answer");
     assert!(rt; answer.as_slice() == b"GET / HTTP/1.1\r\nHost: a\r\n\r\n".as_slice());
+    Ok(())
+}
+
+/// How many of two workers that look for each other find the other.
+fn found<P: Spawner, R: Runs + Wait + Copy + Send + 'static>(
+    rt: R,
+    alloc: Global,
+    spawner: &mut P,
+) -> Option<usize> {
+    let settings = settings(alloc, b"{\"worker_num\":2}")?;
+    let net = net_of(alloc, 2, &[b"a"]).ok()?;
+    let (one, two) = gates(alloc).ok()?;
+    let workers = vec![in alloc; vec![in alloc; one].ok()?, vec![in alloc; two].ok()?].ok()?;
+    let ends = vec![in alloc; Keeper::new(alloc), Keeper::new(alloc)].ok()?;
+    let taskers: Vec<Gate> = Vec::new(alloc);
+    let ran = run_server(rt, alloc, &settings, net, ends, workers, taskers, spawner);
+    let Ok(stopped) = ran else {
+        return None;
+    };
+    let all = stopped.workers.iter().flat_map(|some| some.iter());
+    Some(all.filter(|one| one.found).count())
+}
+
+#[test]
+fn threads_see_each_other(rt: HostRuntime) -> Result<(), Fail> {
+    assert!(rt; found(rt, rt.alloc(), &mut Threads {}) == Some(2));
+    Ok(())
+}
+
+#[test]
+fn in_turns_one_does_not_see_the_other(rt: HostRuntime) -> Result<(), Fail> {
+    assert!(rt; found(rt, rt.alloc(), &mut Turns::new(300, None)) == Some(1));
     Ok(())
 }
 
