@@ -1,8 +1,9 @@
-//! That the players of a server may go to threads of their own.
+//! The players of a server on threads: that they may go there, and their run.
 #![tactic(auto)]
 
 mod facts;
 mod players;
+mod playing;
 mod tables;
 
-pub use players::actor_crosses;
+pub use playing::play;

@@ -57,9 +57,8 @@ where
     sent(PhantomData::<Taker<Msg<N::Link, NamedTicket<J>>>>);
 }
 
-/// The actors of a server may go to threads, since their net, links, ends and handlers may. A caller needs the fact where it hands them
-/// to a spawner: it is not found there by itself.
-pub fn actor_crosses<
+// An actor may go to another thread, since its net, links, ends and handlers may.
+pub(crate) fn actor_crosses<
     N: Net + Drop + Send,
     J: Naming + Send,
     E: Ends<N::Link> + Drop + Send,

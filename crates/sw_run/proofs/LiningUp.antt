@@ -39,6 +39,18 @@ twice : {X Y Z : Type 0} (f : Y → Z) (k : X → Y) (xs : List X) → map (λ x
 twice f k [] = refl
 twice f k (x ∷ xs) = ap (λ l. f (k x) ∷ l) (twice f k xs)
 
+taskers_nets : {N T : Type 0} (H : Type 0) (ts : List T) → nets_of (map (λ (t : T). of_tasker {N = N} {H = H} t) ts) ≡ []
+taskers_nets H [] = refl
+taskers_nets H (t ∷ ts) = taskers_nets H ts
+
+taskers_workers : {H T : Type 0} (N : Type 0) (ts : List T) → workers_of (map (λ (t : T). of_tasker {N = N} {H = H} t) ts) ≡ []
+taskers_workers N [] = refl
+taskers_workers N (t ∷ ts) = taskers_workers N ts
+
+taskers_taskers : {T : Type 0} (N H : Type 0) (ts : List T) → taskers_of (map (λ (t : T). of_tasker {N = N} {H = H} t) ts) ≡ ts
+taskers_taskers N H [] = refl
+taskers_taskers N H (t ∷ ts) = ap (λ l. t ∷ l) (taskers_taskers N H ts)
+
 module _ {N H T : Type 0} where
   reactors_nets : (ms ns : List (Made N H T)) → AreReactors ms → nets_of (ms ++ ns) ≡ nets_of ns
   reactors_nets [] ns h = refl
@@ -79,23 +91,11 @@ module _ {N H T : Type 0} where
   workers_taskers [] ns = refl
   workers_taskers (w ∷ ws) ns = workers_taskers ws ns
 
-  taskers_nets : (ts : List T) → nets_of (map tasker_of ts) ≡ []
-  taskers_nets [] = refl
-  taskers_nets (t ∷ ts) = taskers_nets ts
-
-  taskers_workers : (ts : List T) → workers_of (map tasker_of ts) ≡ []
-  taskers_workers [] = refl
-  taskers_workers (t ∷ ts) = taskers_workers ts
-
-  taskers_taskers : (ts : List T) → taskers_of (map tasker_of ts) ≡ ts
-  taskers_taskers [] = refl
-  taskers_taskers (t ∷ ts) = ap (λ l. t ∷ l) (taskers_taskers ts)
-
   all_made : (net : N) (rs : List (Made N H T)) (ws : List H) (ts : List T) → AreReactors rs → IsLineUp net ws ts (of_door net ∷ (rs ++ (map worker_of ws ++ map tasker_of ts)))
   all_made net rs ws ts h = record {
-    nets_are = ap (λ l. net ∷ l) (reactors_nets rs _ h ∙ workers_nets ws _ ∙ taskers_nets ts);
-    workers_are = reactors_workers rs _ h ∙ workers_workers ws _ ∙ ap (λ l. ws ++ l) (taskers_workers ts) ∙ append-nil ws;
-    taskers_are = reactors_taskers rs _ h ∙ workers_taskers ws _ ∙ taskers_taskers ts;
+    nets_are = ap (λ l. net ∷ l) (reactors_nets rs _ h ∙ workers_nets ws _ ∙ taskers_nets H ts);
+    workers_are = reactors_workers rs _ h ∙ workers_workers ws _ ∙ ap (λ l. ws ++ l) (taskers_workers N ts) ∙ append-nil ws;
+    taskers_are = reactors_taskers rs _ h ∙ workers_taskers ws _ ∙ taskers_taskers N H ts;
   }
 
   -- players in this order, each made so

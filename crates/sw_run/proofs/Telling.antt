@@ -5,7 +5,8 @@ use Rattle.sw_players.specs.Made.{Made}
 use Rattle.sw_run.specs.Counts.{Missing}
 use Rattle.sw_run.specs.LinedUp.{IsLineUp}
 use Rattle.sw_run.specs.declared.faults.ServeFault.{ServeFault}
-use Rattle.sw_run.specs.Ran.{EndsBy, HasBack, GivesBack, told, FellShort}
+use Rattle.sw_crossing.specs.Fell.{FellShort}
+use Rattle.sw_run.specs.Ran.{EndsBy, HasBack, GivesBack, told}
 use Rattle.sw_sweep.specs.Ended.{IsLeft}
 use Rattle.sw_sweep.specs.declared.stopped.Stopped.{Stopped}
 

@@ -33,8 +33,3 @@ module _ {N E H T : Type 0} where
   told s true deaf = Err (faults.StartFault s)
   told s false true = Err (faults.ListenFault s)
   told s false false = Ok s
-
--- a run that fell short has raised the count
-abbrev pub FellShort : Bool → ℕ → ℕ → Type 0
-FellShort true old new = Rises old new
-FellShort false old new = old ≤ new

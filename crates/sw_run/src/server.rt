@@ -1,10 +1,9 @@
 //! The server, from its settings to what it leaves.
-ghost use Rattle.std.specs.Prelude.{◌≡◌, ◌≤◌, None, All, IfOk, map, length};
+ghost use Rattle.std.specs.Prelude.{◌≡◌, ◌≤◌, None, All, map, length};
 ghost use Rattle.std.specs.Arc.{arc_value};
 ghost use Rattle.sw_parts.specs.Plans.{IsPlanned};
-ghost use Rattle.sw_players.specs.Actors.{actor_made};
 ghost use Rattle.sw_run.specs.Counts.{miscount};
-ghost use Rattle.sw_run.specs.Ran.{EndsBy, FellShort, GivesBack, told};
+ghost use Rattle.sw_run.specs.Ran.{EndsBy, GivesBack, told};
 ghost use Rattle.sw_sessions.specs.Values.{slots};
 ghost use Rattle.sw_table_join.specs.Tables.{IsReady, IsHandsOf};
 
@@ -16,14 +15,13 @@ use std::marker::Brand;
 use std::sync::{Arc, Wait};
 use std::thread::Threads;
 use sw_base::OutOfMemory;
-use sw_crossing::actor_crosses;
+use sw_crossing::play;
 use sw_handler::Handler;
 use sw_link::{Link, Net};
 use sw_parts::{Bell, Bellboard, Edge, Parts, all_pipes, make_board, make_table, named_seats};
-use sw_players::Actor;
 use sw_settings::Settings;
 use sw_shared::{NamedClerk, Naming, Stands};
-use sw_spawn::{Ran, Spawner};
+use sw_spawn::Spawner;
 use sw_sweep::{Stopped, finish};
 
 /// Runs a server with these settings over this net, and gives back what is left of it. `ends` are those of the reactors, and the door's
@@ -95,35 +93,6 @@ where
     run_named::<N, E, H, T, P, Brand, R>(
         rt, alloc, settings, given, clerk, seats, table, hands, seat, spawner,
     )
-}
-
-/// Runs the players, and says whether the run fell short.
-fn play<
-    N: Net + Drop + Send + 'static,
-    J: Naming + Send + 'static,
-    E: Edge<N::Link> + Drop + Send + 'static,
-    H: Handler + Drop + Send + 'static,
-    T: Handler + Drop + Send + 'static,
-    P: Spawner,
-    R: Threads + Wait + Copy + Send + 'static,
->(
-    rt: R,
-    alloc: Global,
-    players: Vec<Actor<N, J, E, H, T>>,
-    spawner: &mut P,
-) -> Result<(Vec<Actor<N, J, E, H, T>>, bool), OutOfMemory>
-where
-    N::Link: Drop + Send + 'static,
-    ensures made { IfOk result (λ r. map (actor_made H.made T.made) r.0.items ≡ map (actor_made H.made T.made) players.items) }
-    ensures short { IfOk result (λ r. FellShort r.1 (P.count spawner.old) (P.count spawner.new)) }
-    ensures count { P.count spawner.old ≤ P.count spawner.new }
-{
-    actor_crosses::<N, J, E, H, T>();
-    match spawner.run(rt, alloc, players) {
-        Ran::All(players) => Ok((players, false)),
-        Ran::Failed(players) => Ok((players, true)),
-        Ran::OutOfMemory => Err(OutOfMemory),
-    }
 }
 
 /// What a run came to.
