@@ -39,15 +39,19 @@ twice : {X Y Z : Type 0} (f : Y → Z) (k : X → Y) (xs : List X) → map (λ x
 twice f k [] = refl
 twice f k (x ∷ xs) = ap (λ l. f (k x) ∷ l) (twice f k xs)
 
-taskers_nets : {N T : Type 0} (H : Type 0) (ts : List T) → nets_of (map (λ (t : T). of_tasker {N = N} {H = H} t) ts) ≡ []
-taskers_nets H [] = refl
-taskers_nets H (t ∷ ts) = taskers_nets H ts
+-- a task worker, by what its handler was made with
+abbrev as_tasker : (N H : Type 0) {T : Type 0} → T → Made N H T
+as_tasker N H t = of_tasker t
 
-taskers_workers : {H T : Type 0} (N : Type 0) (ts : List T) → workers_of (map (λ (t : T). of_tasker {N = N} {H = H} t) ts) ≡ []
-taskers_workers N [] = refl
-taskers_workers N (t ∷ ts) = taskers_workers N ts
+taskers_nets : (N H : Type 0) {T : Type 0} (ts : List T) → nets_of (map (as_tasker N H) ts) ≡ []
+taskers_nets N H [] = refl
+taskers_nets N H (t ∷ ts) = taskers_nets N H ts
 
-taskers_taskers : {T : Type 0} (N H : Type 0) (ts : List T) → taskers_of (map (λ (t : T). of_tasker {N = N} {H = H} t) ts) ≡ ts
+taskers_workers : (N H : Type 0) {T : Type 0} (ts : List T) → workers_of (map (as_tasker N H) ts) ≡ []
+taskers_workers N H [] = refl
+taskers_workers N H (t ∷ ts) = taskers_workers N H ts
+
+taskers_taskers : (N H : Type 0) {T : Type 0} (ts : List T) → taskers_of (map (as_tasker N H) ts) ≡ ts
 taskers_taskers N H [] = refl
 taskers_taskers N H (t ∷ ts) = ap (λ l. t ∷ l) (taskers_taskers N H ts)
 
@@ -76,9 +80,6 @@ module _ {N H T : Type 0} where
   abbrev worker_of : H → Made N H T
   worker_of w = of_worker w
 
-  abbrev tasker_of : T → Made N H T
-  tasker_of t = of_tasker t
-
   workers_nets : (ws : List H) (ns : List (Made N H T)) → nets_of (map worker_of ws ++ ns) ≡ nets_of ns
   workers_nets [] ns = refl
   workers_nets (w ∷ ws) ns = workers_nets ws ns
@@ -91,10 +92,10 @@ module _ {N H T : Type 0} where
   workers_taskers [] ns = refl
   workers_taskers (w ∷ ws) ns = workers_taskers ws ns
 
-  all_made : (net : N) (rs : List (Made N H T)) (ws : List H) (ts : List T) → AreReactors rs → IsLineUp net ws ts (of_door net ∷ (rs ++ (map worker_of ws ++ map tasker_of ts)))
+  all_made : (net : N) (rs : List (Made N H T)) (ws : List H) (ts : List T) → AreReactors rs → IsLineUp net ws ts (of_door net ∷ (rs ++ (map worker_of ws ++ map (as_tasker N H) ts)))
   all_made net rs ws ts h = record {
-    nets_are = ap (λ l. net ∷ l) (reactors_nets rs _ h ∙ workers_nets ws _ ∙ taskers_nets H ts);
-    workers_are = reactors_workers rs _ h ∙ workers_workers ws _ ∙ ap (λ l. ws ++ l) (taskers_workers N ts) ∙ append-nil ws;
+    nets_are = ap (λ l. net ∷ l) (reactors_nets rs _ h ∙ workers_nets ws _ ∙ taskers_nets N H ts);
+    workers_are = reactors_workers rs _ h ∙ workers_workers ws _ ∙ ap (λ l. ws ++ l) (taskers_workers N H ts) ∙ append-nil ws;
     taskers_are = reactors_taskers rs _ h ∙ workers_taskers ws _ ∙ taskers_taskers N H ts;
   }
 
@@ -104,9 +105,9 @@ module _ {N H T : Type 0} where
       → map made ws ≡ map (λ x. of_worker (k x)) hs → map made ts ≡ map (λ y. of_tasker (j y)) us
       → IsLineUp net (map k hs) (map j us) (map made all)
   lined_up made net door rs ws ts all hs k us j are is_door are_reactors are_workers are_taskers =
-      let hands : map made (ws ++ ts) ≡ map worker_of (map k hs) ++ map tasker_of (map j us) =
-      map-append made ws ts ∙ ap (λ l. l ++ map made ts) (are_workers ∙ twice worker_of k hs) ∙ ap (λ l. map worker_of (map k hs) ++ l) (are_taskers ∙ twice tasker_of j us) in
-      let same : map made all ≡ of_door net ∷ (map made rs ++ (map worker_of (map k hs) ++ map tasker_of (map j us))) =
+      let hands : map made (ws ++ ts) ≡ map worker_of (map k hs) ++ map (as_tasker N H) (map j us) =
+      map-append made ws ts ∙ ap (λ l. l ++ map made ts) (are_workers ∙ twice worker_of k hs) ∙ ap (λ l. map worker_of (map k hs) ++ l) (are_taskers ∙ twice (as_tasker N H) j us) in
+      let same : map made all ≡ of_door net ∷ (map made rs ++ (map worker_of (map k hs) ++ map (as_tasker N H) (map j us))) =
       ap (map made) are ∙ ap (λ m. m ∷ map made (rs ++ (ws ++ ts))) is_door ∙ ap (λ l. of_door net ∷ l) (map-append made rs (ws ++ ts) ∙ ap (λ l. map made rs ++ l) hands) in
       subst (IsLineUp net (map k hs) (map j us)) (sym same) (all_made net (map made rs) (map k hs) (map j us) are_reactors)
 
