@@ -1,0 +1,3 @@
+pub mod Counts
+pub mod LinedUp
+pub mod Ran
